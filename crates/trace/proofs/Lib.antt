@@ -1,0 +1,7 @@
+pub mod Examples
+pub mod Groups
+pub mod Gathering
+pub mod Judging
+pub mod Laws
+pub mod OneForm
+pub mod OneOutcome
