@@ -4,14 +4,14 @@ use mathlib.Core.Bool.{Bool, true, false, cond, not, _&&_, _||_}
 use lib.Dec.{eqb, ltb}
 
 -- A set of locks is one 64-bit word: locks 0 to 62, and the read mark, whose number is 63.
-abbrev pub numbers : ℕ
-numbers = 64
+abbrev pub isLock : ℕ → Bool
+isLock number = ltb number 63
 
 abbrev pub mark : ℕ
 mark = 63
 
-abbrev pub isLock : ℕ → Bool
-isLock l = ltb l 63
+abbrev pub numbers : ℕ
+numbers = 64
 
 -- A number, a lock's or the mark's, is in a set: that digit of the word is set.
 unfoldable pub isIn : ℕ → ℕ → Bool
