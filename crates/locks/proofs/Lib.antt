@@ -1,5 +1,5 @@
 pub mod Members
 pub mod Words
 pub mod Laws
-pub mod OneOutcome
+pub mod NoTwoOutcomes
 pub mod Examples

@@ -4,4 +4,4 @@ pub mod Gathering
 pub mod Judging
 pub mod Laws
 pub mod OneForm
-pub mod OneOutcome
+pub mod NoTwoOutcomes
