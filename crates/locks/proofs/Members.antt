@@ -5,7 +5,7 @@
 use Prim.Native.Nat.{ℕ, zero, suc, _+_, _*_, _/_, _%_, _^_, _≤_, _<_, zero-le, suc-le-suc}
 use mathlib.Core.Path.{_≡_, refl, sym, ap, ap₂, _∙_}
 use mathlib.Core.Logic.{_⊎_, inl, inr}
-use mathlib.Core.Bool.{Bool, true, false, cond, not, _&&_, Bool·beq, and-false, true≢false}
+use mathlib.Core.Bool.{Bool, true, false, cond, not, _&&_, Bool·beq, and-false, and-eq-true-iff, true≢false}
 use native.Mathlib.Nat.{pow-suc, pow-succ', div-div-eq-div-mul, div-eq-of-lt, div-one, zero-div, lt-of-lt-of-le, mod-lt, le-refl, le-of-suc-le-suc, not-suc-le-zero, eq-or-lt-of-le}
 use native.Mathlib.Omega.{arith}
 use lib.Dec.{eqb, ltb, leb·zero, leb·suc-zero, leb·suc-suc}
@@ -20,11 +20,6 @@ pub same-yes : (x y : Bool) → (x ≡ true → y ≡ true) → (y ≡ true → 
 same-yes true y f g = sym (f refl)
 same-yes false true f g = g refl
 same-yes false false f g = refl
-
--- Both say yes.
-pub both-yes : (x y : Bool) → (x && y) ≡ true → (x ≡ true) × (y ≡ true)
-both-yes true y e = (refl, e)
-both-yes false y e = (e, cc)
 
 -- ---- the digits of a word, lowest first
 
@@ -143,7 +138,7 @@ pub every-all : (n : ℕ) (p : ℕ → Bool) → every n p ≡ true → (k : ℕ
 unfolding every
 every-all zero p e k h = absurd (not-suc-le-zero h)
 every-all (suc n) p e k h =
-    let here = both-yes (p n) (every n p) e in at-or-below (here .0) (every-all n p (here .1) k) (eq-or-lt-of-le (le-of-suc-le-suc h))
+    let here = and-eq-true-iff (p n) (every n p) .0 e in at-or-below (here .0) (every-all n p (here .1) k) (eq-or-lt-of-le (le-of-suc-le-suc h))
   where
     at-or-below : p n ≡ true → (k < n → p k ≡ true) → (k ≡ n) ⊎ (k < n) → p k ≡ true
     at-or-below top rest (inl q) = ap p q ∙ top

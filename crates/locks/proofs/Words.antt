@@ -3,7 +3,7 @@
 -- Assumes nothing.
 use Prim.Native.Nat.{ℕ, zero, suc, _+_, _-_, _*_, _/_, _%_, _^_, _≤_, _<_, zero-le, suc-le-suc, min, max}
 use mathlib.Core.Path.{_≡_, refl, sym, ap, ap₂, _∙_, fun-ext}
-use mathlib.Core.Bool.{Bool, true, false, cond, not, _&&_, _||_, Bool·beq, or-false, and-true, and-false, true≢false}
+use mathlib.Core.Bool.{Bool, true, false, cond, not, _&&_, _||_, Bool·beq, or-false, and-true, and-false, and-eq-true-iff, true≢false}
 use native.Mathlib.Nat.{pow-suc, mod-lt, one-mul, not-suc-le-zero}
 use native.Mathlib.Omega.{arith}
 use lib.Dec.{eqb, eqb·zero-suc, eqb·suc-zero, eqb·suc-suc}
@@ -12,7 +12,7 @@ use lib.Bits.{bitAnd, bitOr, and-step, or-step, and-lt, or-lt}
 use lib.Count.{ones, ones-step, ones-le, trailingZeros, under}
 use borrow.Author.Tests.{lt-ltb, le-ltb, eqb-true, ne-eqb}
 use Rattle.locks.specs.Sets.{numbers, mark, isIn, those, every, howMany, first, taken, released, setOfAccess, none, isEmpty, count, lowest, apart, within}
-use Rattle.locks.proofs.Members.{both-yes, isIn-below, isIn-those-inside, isIn-those-below, isIn-zero, isIn-suc, isIn-of-zero, isIn-high, low-digit, cond-le, eqb-cond, is-those, equal-is-every, howMany-low}
+use Rattle.locks.proofs.Members.{isIn-below, isIn-those-inside, isIn-those-below, isIn-zero, isIn-suc, isIn-of-zero, isIn-high, low-digit, cond-le, eqb-cond, is-those, equal-is-every, howMany-low}
 
 -- ---- digit by digit
 
@@ -97,7 +97,7 @@ isIn-added wanted k l s f h =
 pub isIn-removed : (wanted : Bool) (k l s : ℕ) → s < 2 ^ 64 → isIn k (removed wanted l s) ≡ (isIn k s && not (wanted && eqb k l))
 isIn-removed wanted k l s h =
     isIn-those-inside 64 (λ j. isIn j s && not (wanted && eqb j l)) k
-    (λ e. isIn-below 64 k s h (both-yes (isIn k s) (not (wanted && eqb k l)) e .0))
+    (λ e. isIn-below 64 k s h (and-eq-true-iff (isIn k s) (not (wanted && eqb k l)) .0 e .0))
 
 -- Below 64, every number but l is in them or not as before.
 pub added-others : (wanted : Bool) (k l s : ℕ) → k < 64 → (k ≡ l → ⊥) → isIn k (added wanted l s) ≡ isIn k s

@@ -12,7 +12,7 @@ use Rattle.trace.specs.declared.Reading.the-variants.{Found, Refused}
 use Rattle.trace.specs.Numbers.{numberAt}
 use Rattle.trace.specs.Kinds.{eventOf, reserved, largestOperand}
 
--- The code of each refusal.
+-- The number of each refusal.
 abbrev pub codeOf : Refusal → ℕ
 codeOf BytesEnd = 3
 codeOf FormLong = 4
@@ -29,8 +29,3 @@ judged at (Value number next) =
 
 unfoldable pub readingAt : List ℕ → ℕ → Reading
 readingAt trace at = judged at (numberAt trace at)
-
--- Where reading goes on: after an event that was found; a refusal leaves the place as it was.
-abbrev pub placeAfter : Reading → ℕ
-placeAfter (Found event next) = next
-placeAfter (Refused why at) = at

@@ -4,26 +4,12 @@ ghost use mathlib.Core.Path.{_≡_};
 ghost use Prim.Native.Nat.{_<_};
 ghost use Rattle.trace.specs.Numbers.{numberAt};
 ghost use Rattle.trace.specs.Kinds.{entry, saysYes, largestOperand, lawfulHolding, isAccess, isRead, location};
-ghost use Rattle.trace.specs.Events.{readingAt};
+ghost use Rattle.trace.specs.Events.{codeOf, readingAt};
 
 // A number has at most this many groups of seven bits.
 pub const MOST_GROUPS: usize = 3;
 
-// The kinds of events.
-pub const SPAWN: u32 = 0;
-
-pub const RETURN: u32 = 1;
-
-pub const SYNC: u32 = 2;
-
-pub const LOCK: u32 = 3;
-
-pub const UNLOCK: u32 = 4;
-
-pub const READ: u32 = 5;
-
-pub const WRITE: u32 = 6;
-
+// The kind that no event may have.
 pub const RESERVED: u32 = 7;
 
 // A row for each kind: largest operand, lawful with a lock held, access, read mark.
@@ -46,7 +32,7 @@ pub struct Event {
     pub operand: u32,
 }
 
-// Why no event stands at a place: codes 3 to 6.
+// Why no event stands at a place.
 pub enum Refusal {
     BytesEnd,
     FormLong,
@@ -64,6 +50,20 @@ pub enum Number {
 pub enum Reading {
     Found(Event, usize),
     Refused(Refusal, usize),
+}
+
+impl Refusal {
+    // The code that stands for the refusal.
+    pub fn code(self) -> u32
+        ensures { λ r. ⌜ r ≡ codeOf self ⌝ }
+    {
+        match self {
+            Refusal::BytesEnd => 3,
+            Refusal::FormLong => 4,
+            Refusal::Reserved => 5,
+            Refusal::OperandLarge => 6,
+        }
+    }
 }
 
 // The number that stands at a place.
