@@ -7,3 +7,10 @@ abbrev pub OneResult :
     {Lifetimes : Type 0} {Arguments Result Exit : Lifetimes → Type 0} → ((κ : Lifetimes) → Arguments κ → Result κ → Exit κ → Type 0) → Type 0
 OneResult {Lifetimes} {Arguments} {Result} {Exit} contract =
     (κ : Lifetimes) (a : Arguments κ) (x y : Result κ) (s s′ : Exit κ) → contract κ a x s → contract κ a y s′ → x ≡ y
+
+-- The same of the numbers that are lent: `left` reads them off the parameters at exit.
+abbrev pub OneLeft :
+    {Lifetimes : Type 0} {Arguments Result Exit : Lifetimes → Type 0} {Numbers : Type 0}
+    → ((κ : Lifetimes) → Arguments κ → Result κ → Exit κ → Type 0) → ((κ : Lifetimes) → Exit κ → Numbers) → Type 0
+OneLeft {Lifetimes} {Arguments} {Result} {Exit} contract left =
+    (κ : Lifetimes) (a : Arguments κ) (x y : Result κ) (s s′ : Exit κ) → contract κ a x s → contract κ a y s′ → left κ s ≡ left κ s′

@@ -1,0 +1,146 @@
+-- 01's small traces with parallelism and Figure 1 of 002, evaluated: antt computes each line from the definitions. Of the events only spawn, return and
+-- sync are told apart; an access, a lock and an unlock are `other`. Assumes nothing.
+use Prim.Native.Nat.{ℕ}
+use mathlib.Core.Path.{_≡_, refl, sym}
+use mathlib.Core.Logic.{_≢_}
+use mathlib.Core.Bool.{cond, true≢false}
+use mathlib.Core.List.{List, [], _∷_, _++_, headD, map}
+use native.Mathlib.Omega.{arith}
+use lib.ListN.{getD}
+use Rattle.bags.specs.declared.ask.Answer.{Answer}
+use Rattle.bags.specs.declared.ask.Answer.the-variants as answer
+use Rattle.bags.specs.declared.ask.Runs.{Runs}
+use Rattle.bags.specs.declared.Spawned.the-variants.{Begun, Full}
+use Rattle.bags.specs.Parallel.{Act, spawn, return, sync, other, member, begunAfter, opensAfter, begun, opens, mainOpen, maker, Parallel}
+use Rattle.bags.specs.Bags.{bagsOfNew, synced, handed, bagsAfter, bags, inSBag, inPBag}
+use Rattle.bags.specs.Runs.{numbersFrom, run, asBags, pairsIn, held}
+use Rattle.bags.specs.Ask.{asked}
+use Rattle.bags.specs.Steps.{spawned, pushed}
+use Rattle.bags.proofs.Laws.{bags-agree}
+
+-- The events of a list, by their numbers.
+unfoldable pub eventsOf : List Act → ℕ → Act
+eventsOf acts k = getD acts k other
+
+-- Of some events, in order: each pair, the earlier event first, that the SP-bags call parallel.
+unfoldable pub parallelWith : (ℕ → Act) → ℕ → List ℕ → List (ℕ × ℕ)
+parallelWith events i [] = []
+parallelWith events i (j ∷ js) = cond (inPBag (maker events i) (bags events j)) ((i, j) ∷ parallelWith events i js) (parallelWith events i js)
+
+unfoldable pub parallelPairs : (ℕ → Act) → List ℕ → List (ℕ × ℕ)
+parallelPairs events [] = []
+parallelPairs events (i ∷ js) = parallelWith events i js ++ parallelPairs events js
+
+-- A trace: its events, its accesses, and the pairs of them that are parallel.
+pub record Row : Type 0 where
+  pub events : List Act
+  pub accesses : List ℕ
+  pub parallel : List (ℕ × ℕ)
+
+-- Figure 1 of 002: main writes; three procedures are spawned and update, two lock events, a read and a write or more each; a sync; main reads.
+abbrev pub figure1 : List Act
+figure1 =
+    other ∷
+    spawn ∷ other ∷ other ∷ other ∷ other ∷ other ∷ other ∷ return ∷
+    spawn ∷ other ∷ other ∷ other ∷ other ∷ return ∷
+    spawn ∷ other ∷ other ∷ other ∷ other ∷ return ∷
+    sync ∷ other ∷ return ∷ []
+
+abbrev pub table : List Row
+table =
+    -- a spawned write and one after it; two reads have the same events here
+    record {
+      events = spawn ∷ other ∷ return ∷ other ∷ return ∷ [];
+      accesses = 1 ∷ 3 ∷ [];
+      parallel = (1, 3) ∷ [];
+    } ∷
+    -- with a sync
+    record {
+      events = spawn ∷ other ∷ return ∷ sync ∷ other ∷ return ∷ [];
+      accesses = 1 ∷ 4 ∷ [];
+      parallel = [];
+    } ∷
+    -- one lock
+    record {
+      events = spawn ∷ other ∷ other ∷ other ∷ return ∷ other ∷ other ∷ other ∷ return ∷ [];
+      accesses = 2 ∷ 6 ∷ [];
+      parallel = (2, 6) ∷ [];
+    } ∷
+    -- implied sync
+    record {
+      events = spawn ∷ spawn ∷ other ∷ return ∷ return ∷ other ∷ return ∷ [];
+      accesses = 2 ∷ 5 ∷ [];
+      parallel = (2, 5) ∷ [];
+    } ∷
+    -- dropped entry: event 2 precedes 5, and both are parallel with 7
+    record {
+      events = spawn ∷ spawn ∷ other ∷ return ∷ sync ∷ other ∷ return ∷ other ∷ return ∷ [];
+      accesses = 2 ∷ 5 ∷ 7 ∷ [];
+      parallel = (2, 7) ∷ (5, 7) ∷ [];
+    } ∷
+    -- Figure 1: each access of a spawned procedure with each of the other two's, and none of main's
+    record {
+      events = figure1;
+      accesses = 0 ∷ 4 ∷ 5 ∷ 11 ∷ 12 ∷ 17 ∷ 18 ∷ 22 ∷ [];
+      parallel =
+          (4, 11) ∷ (4, 12) ∷ (4, 17) ∷ (4, 18) ∷ (5, 11) ∷ (5, 12) ∷ (5, 17) ∷ (5, 18) ∷ (11, 17) ∷ (11, 18) ∷ (12, 17) ∷ (12, 18) ∷ [];
+    } ∷
+    -- a sync of the spawned procedure leaves its parent's children parallel: 1 with 5, though a sync lies between
+    record {
+      events = spawn ∷ other ∷ return ∷ spawn ∷ sync ∷ other ∷ return ∷ return ∷ [];
+      accesses = 1 ∷ 5 ∷ [];
+      parallel = (1, 5) ∷ [];
+    } ∷ []
+
+pub all-as-known : map (λ (row : Row). parallelPairs (eventsOf (row .events)) (row .accesses)) table ≡ map (λ (row : Row). row .parallel) table
+unfolding eventsOf parallelWith parallelPairs member begunAfter opensAfter begun opens maker headD bagsOfNew synced handed bagsAfter bags inPBag
+all-as-known = refl
+
+other-no-return : other ≢ return
+other-no-return e = let z : _≡_ {A = ℕ} 0 1 = cc in omega arith
+
+-- The definition itself, on the first of them: spawn 0, made by main, has its matching return 2 with 0 < 1 < 2 < 3, and nothing lies between 2 and 3.
+pub spawned-write : Parallel (eventsOf (spawn ∷ other ∷ return ∷ other ∷ return ∷ [])) 1 3
+unfolding eventsOf begunAfter opensAfter begun opens maker headD
+spawned-write = record {
+  s = 0;
+  G = 0;
+  made-by-G = refl;
+  r = 2;
+  matching = record { spawns = refl; returns = refl; made-by-started = refl };
+  s<i = omega arith;
+  i<r = omega arith;
+  r<j = omega arith;
+  no-sync-of-G = λ k from to. absurd (omega arith);
+  no-return-of-G = λ k from to. absurd (omega arith);
+}
+
+-- And on Figure 1, by the theorem that the SP-bags agree with it: the race of events 12 and 17, and the sync between 12 and main's read.
+pub figure1-parallel : Parallel (eventsOf figure1) 12 17
+unfolding eventsOf member begunAfter opensAfter begun opens mainOpen maker headD bagsOfNew synced handed bagsAfter bags inPBag
+figure1-parallel = bags-agree (eventsOf figure1) 12 17 (omega arith) other-no-return refl .1 refl
+
+pub figure1-synced : Parallel (eventsOf figure1) 12 22 → ⊥
+unfolding eventsOf member begunAfter opensAfter begun opens mainOpen maker headD bagsOfNew synced handed bagsAfter bags inPBag
+figure1-synced w = true≢false (sym (bags-agree (eventsOf figure1) 12 22 (omega arith) other-no-return refl .0 w))
+
+-- ---- Pieces -----------------------------------------------------------------------------------------------------------------------------------
+
+abbrev answers : List ℕ → List ℕ → Runs → List ℕ → List Answer
+answers starts joins runs = map (λ (p : ℕ). asked p (held starts joins runs))
+
+-- Main has spawned 1, which has spawned 2 and 3; 2 has returned, and 3 runs. Then 3 has returned too and 1 has synced.
+pub pieces-as-known :
+    (held (0 ∷ 1 ∷ 3 ∷ []) (1 ∷ 2 ∷ 4 ∷ []) (record { pairs = 3; begun = 4 })
+    ≡ record { owner = 3; S = 3 ∷ []; P = [] } ∷ record { owner = 1; S = 1 ∷ []; P = 2 ∷ [] } ∷ record { owner = 0; S = 0 ∷ []; P = [] } ∷ [])
+    × (answers (0 ∷ 1 ∷ 3 ∷ []) (1 ∷ 2 ∷ 4 ∷ []) (record { pairs = 3; begun = 4 }) (0 ∷ 1 ∷ 2 ∷ 3 ∷ 4 ∷ [])
+    ≡ answer.Series ∷ answer.Series ∷ answer.Parallel ∷ answer.Series ∷ answer.NoBag ∷ [])
+    × (answers (0 ∷ 1 ∷ 3 ∷ []) (1 ∷ 4 ∷ 4 ∷ []) (record { pairs = 2; begun = 4 }) (0 ∷ 1 ∷ 2 ∷ 3 ∷ 4 ∷ [])
+    ≡ answer.Series ∷ answer.Series ∷ answer.Series ∷ answer.Series ∷ answer.NoBag ∷ [])
+    -- The last procedure that may begin, and the first that may not.
+    × (spawned (record { pairs = 2; begun = 4095 }) ≡ Begun (record { pairs = 3; begun = 4096 }))
+    × (spawned (record { pairs = 2; begun = 4096 }) ≡ Full)
+    × (pushed (record { pairs = 2; begun = 4095 }) 7 (0 ∷ 1 ∷ 3 ∷ []) ≡ 0 ∷ 1 ∷ 7 ∷ [])
+    × (pushed (record { pairs = 2; begun = 4096 }) 7 (0 ∷ 1 ∷ 3 ∷ []) ≡ 0 ∷ 1 ∷ 3 ∷ [])
+unfolding member inSBag inPBag numbersFrom run asBags pairsIn held asked spawned pushed
+pieces-as-known = (refl, refl, refl, refl, refl, refl, refl)

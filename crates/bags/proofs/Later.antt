@@ -1,0 +1,70 @@
+-- Later events change nothing: what is said of the events before j is the same in two sequences that agree there. Assumes nothing.
+use Prim.Native.Nat.{ℕ, zero, suc, _<_, _≤_}
+use mathlib.Core.Path.{_≡_, refl, sym, ap, _∙_}
+use mathlib.Core.List.{List, headD}
+use native.Mathlib.Nat.{le-refl}
+use native.Mathlib.Omega.{arith}
+use Rattle.bags.specs.Parallel.{Act, begun, opens, maker, Parallel}
+use Rattle.bags.specs.Bags.{bags}
+
+-- Two sequences with the same events before j.
+pub record SameBefore (j : ℕ) (events events′ : ℕ → Act) : Type 0 where
+  pub same : (k : ℕ) → k < j → events k ≡ events′ k
+
+-- They have the same events before any earlier number.
+same-earlier : (i j : ℕ) (events events′ : ℕ → Act) → i ≤ j → SameBefore j events events′ → SameBefore i events events′
+same-earlier i j events events′ h w = record { same = λ k l. w .same k (omega arith) }
+
+-- The number of procedures begun is the same,
+pub later-begun : (j : ℕ) (events events′ : ℕ → Act) → SameBefore j events events′ → begun events j ≡ begun events′ j
+unfolding begun
+later-begun zero events events′ w = refl
+later-begun (suc j) events events′ w =
+    rw (w .same j (le-refl (suc j)), later-begun j events events′ (same-earlier j (suc j) events events′ (omega arith) w))
+
+-- so are the open procedures,
+pub later-opens : (j : ℕ) (events events′ : ℕ → Act) → SameBefore j events events′ → opens events j ≡ opens events′ j
+unfolding opens
+later-opens zero events events′ w = refl
+later-opens (suc j) events events′ w =
+    let before = same-earlier j (suc j) events events′ (omega arith) w in
+    rw (w .same j (le-refl (suc j)), later-begun j events events′ before, later-opens j events events′ before)
+
+-- the bags,
+pub later-bags : (j : ℕ) (events events′ : ℕ → Act) → SameBefore j events events′ → bags events j ≡ bags events′ j
+unfolding bags
+later-bags zero events events′ w = refl
+later-bags (suc j) events events′ w =
+    let before = same-earlier j (suc j) events events′ (omega arith) w in
+    rw (w .same j (le-refl (suc j)), later-begun j events events′ before, later-bags j events events′ before)
+
+-- who makes an event,
+later-maker : (k j : ℕ) (events events′ : ℕ → Act) → k ≤ j → SameBefore j events events′ → maker events k ≡ maker events′ k
+unfolding maker
+later-maker k j events events′ h w = ap (λ (gs : List ℕ). headD gs 0) (later-opens k events events′ (same-earlier k j events events′ h w))
+
+-- and who is parallel with j.
+pub later-parallel : (i j : ℕ) (events events′ : ℕ → Act) → SameBefore j events events′ → Parallel events i j → Parallel events′ i j
+later-parallel i j events events′ w p =
+    record {
+      s = p .s;
+      G = p .G;
+      made-by-G = sym (makes (p .s) (omega arith)) ∙ p .made-by-G;
+      r = p .r;
+      matching =
+          record {
+            spawns = sym (w .same (p .s) (omega arith)) ∙ p .matching .spawns;
+            returns = sym (w .same (p .r) (omega arith)) ∙ p .matching .returns;
+            made-by-started =
+                sym (makes (p .r) (omega arith)) ∙ p .matching .made-by-started
+                ∙ later-begun (p .s) events events′ (same-earlier (p .s) j events events′ (omega arith) w);
+          };
+      s<i = p .s<i;
+      i<r = p .i<r;
+      r<j = p .r<j;
+      no-sync-of-G = λ k h l e q. p .no-sync-of-G k h l (w .same k l ∙ e) (makes k (omega arith) ∙ q);
+      no-return-of-G = λ k h l e q. p .no-return-of-G k h l (w .same k l ∙ e) (makes k (omega arith) ∙ q);
+    }
+  where
+    makes : (k : ℕ) → k ≤ j → maker events k ≡ maker events′ k
+    makes k h = later-maker k j events events′ h w

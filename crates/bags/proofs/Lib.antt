@@ -1,0 +1,10 @@
+pub mod Stack
+pub mod TwoLaws
+pub mod Later
+pub mod Runs
+pub mod Agreement
+pub mod Search
+pub mod Pieces
+pub mod Laws
+pub mod NoTwoOutcomes
+pub mod Examples

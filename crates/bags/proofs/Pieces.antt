@@ -1,0 +1,306 @@
+-- What the lent pieces hold after each function: a store changes one pair and no other, so the pairs go forward as the events say, and with them the
+-- bags; and where a procedure is that `ask` seeks. Assumes nothing.
+use Prim.Native.Nat.{ℕ, zero, suc, _+_, _-_, _≤_, _<_}
+use mathlib.Core.Path.{_≡_, refl, sym, ap, ap₂, _∙_}
+use mathlib.Core.Logic.{_≢_}
+use mathlib.Core.Bool.{Bool, true, false, cond, not, _&&_, _||_, and-true, or-true, or-false}
+use mathlib.Core.List.{List, [], _∷_, headD, map}
+use native.Mathlib.Omega.{arith}
+use native.Mathlib.Decide.{decLt}
+use lib.Dec.{eqb, ltb, leb}
+use lib.ListN.{length, getD, set, length-set}
+use borrow.Author.Tests.{lt-ltb, le-ltb, lt-leb, le-leb}
+use lib.Seq.{getD-set-same, getD-set-other}
+use Rattle.bags.specs.declared.ask.Runs.{Runs}
+use Rattle.bags.specs.declared.ask.Answer.the-variants.{Series, Parallel, NoBag}
+use Rattle.bags.specs.declared.Spawned.the-variants.{Begun, Full}
+use Rattle.bags.specs.Parallel.{Act, member, spawn, return, sync, begunAfter}
+use Rattle.bags.specs.Bags.{Bags, bagsOfNew, inPBag}
+use Rattle.bags.specs.Runs.{Pair, numbersFrom, run, asBags, InOrder, pairsIn, room, held, Room}
+use Rattle.bags.specs.Ask.{asked, inSomeBag, Found}
+use Rattle.bags.specs.Steps.{runner, Begins, Carries, mostBegun, spawned, pushed}
+use Rattle.bags.proofs.Runs.{joined, pairsAfter, bags-after, in-order-after, between-under, member-run, in-none-above, in-S-or-P}
+
+-- ---- Stores -----------------------------------------------------------------------------------------------------------------------------------
+
+-- The same numbers below d, the same first d pairs.
+same-pairs : (starts starts′ joins joins′ : List ℕ) (d : ℕ) → ((i : ℕ) → i < d → getD starts′ i 0 ≡ getD starts i 0)
+    → ((i : ℕ) → i < d → getD joins′ i 0 ≡ getD joins i 0) → pairsIn starts′ joins′ d ≡ pairsIn starts joins d
+unfolding pairsIn
+same-pairs starts starts′ joins joins′ zero h l = refl
+same-pairs starts starts′ joins joins′ (suc d) h l =
+    ap₂ (λ (p : Pair) (ps : List Pair). p ∷ ps)
+    (ap₂ (λ (a b : ℕ). record { start = a; join = b }) (h d (omega arith)) (l d (omega arith)))
+    (same-pairs starts starts′ joins joins′ d (λ i m. h i (omega arith)) (λ i m. l i (omega arith)))
+
+-- A store at place d changes nothing below it.
+below-store : (piece : List ℕ) (d x i : ℕ) → i < d → getD (set piece d x) i 0 ≡ getD piece i 0
+below-store piece d x i h = getD-set-other piece d i x 0 (λ e. omega arith)
+
+-- A pair stored at place d stands on top of the first d;
+pairs-spawned : (starts joins : List ℕ) (d n : ℕ) → d < length starts → d < length joins
+    → pairsIn (set starts d n) (set joins d (suc n)) (suc d) ≡ pairsAfter spawn n (pairsIn starts joins d)
+unfolding pairsIn pairsAfter
+pairs-spawned starts joins d n h l =
+    ap₂ (λ (p : Pair) (ps : List Pair). p ∷ ps)
+    (ap₂ (λ (a b : ℕ). record { start = a; join = b }) (getD-set-same starts d n 0 h) (getD-set-same joins d (suc n) 0 l))
+    (same-pairs starts (set starts d n) joins (set joins d (suc n)) d (below-store starts d n) (below-store joins d (suc n)))
+
+one-more : (d : ℕ) → d + 1 ≡ suc d
+one-more d = omega arith
+
+one-less : (d : ℕ) → suc d - 1 ≡ d
+one-less d = omega arith
+
+-- a join stored at the top of d pairs is the top one's;
+pairs-synced : (starts joins : List ℕ) (d n : ℕ) → 0 < d → d ≤ length joins
+    → pairsIn starts (set joins (d - 1) n) d ≡ pairsAfter sync n (pairsIn starts joins d)
+unfolding pairsIn pairsAfter joined
+pairs-synced starts joins zero n some l = absurd (omega arith)
+pairs-synced starts joins (suc d) n some l =
+    rw (one-less d) (ap₂ (λ (p : Pair) (ps : List Pair). p ∷ ps)
+    (ap (λ (b : ℕ). record { start = getD starts d 0; join = b }) (getD-set-same joins d n 0 l))
+    (same-pairs starts starts joins (set joins d n) d (λ i h. refl) (below-store joins d n)))
+
+-- and with one pair less the top one is gone.
+pairs-returned : (starts joins : List ℕ) (d n : ℕ) → 0 < d → pairsIn starts joins (d - 1) ≡ pairsAfter return n (pairsIn starts joins d)
+unfolding pairsIn pairsAfter
+pairs-returned starts joins zero n some = absurd (omega arith)
+pairs-returned starts joins (suc d) n some = rw (one-less d) refl
+
+-- ---- Events -----------------------------------------------------------------------------------------------------------------------------------
+
+some-pair : (starts joins : List ℕ) (d : ℕ) → 0 < d → pairsIn starts joins d ≢ []
+unfolding pairsIn
+some-pair starts joins zero h e = omega arith
+some-pair starts joins (suc d) h e = let z : _≡_ {A = ℕ} 0 1 = cc in omega arith
+
+-- Where the pairs go forward as an event says, so do the bags.
+carried : (act : Act) (starts joins starts′ joins′ : List ℕ) (runs runs′ : Runs) → Room starts joins runs
+    → length starts′ ≡ length starts → length joins′ ≡ length joins → runs′ .pairs ≤ room → runs′ .begun ≡ begunAfter act (runs .begun)
+    → pairsIn starts′ joins′ (runs′ .pairs) ≡ pairsAfter act (runs .begun) (pairsIn starts joins (runs .pairs))
+    → Carries act starts joins runs starts′ joins′ runs′
+unfolding held
+carried act starts joins starts′ joins′ runs runs′ h a b few n e = record {
+  begun-after = n;
+  bags = ap₂ asBags e n ∙ bags-after act (runs .begun) (pairsIn starts joins (runs .pairs)) (h .in-order);
+  room-after = λ some. record {
+    starts-fit = omega (arith, h .starts-fit);
+    joins-fit = omega (arith, h .joins-fit);
+    pairs-fit = few;
+    main-open = some;
+    in-order = rw e (rw n (in-order-after act (runs .begun) (pairsIn starts joins (runs .pairs)) (h .in-order)
+        (λ none. some-pair starts′ joins′ (runs′ .pairs) some (e ∙ none))));
+  };
+}
+
+-- Each of the first d pairs starts below the next one, so there are no more pairs than procedures begun.
+pairs-begun : (starts joins : List ℕ) (d n : ℕ) → InOrder (pairsIn starts joins d) n → d ≤ n
+unfolding InOrder pairsIn
+pairs-begun starts joins zero n h = omega arith
+pairs-begun starts joins (suc d) n h = omega (arith, pairs-begun starts joins d (getD starts d 0) (h .2))
+
+pub begins : (starts joins : List ℕ) → room ≤ length starts → room ≤ length joins
+    → Begins (set starts 0 0) (set joins 0 1) (record { pairs = 1; begun = 1 })
+unfolding held pairsIn asBags run numbersFrom bagsOfNew InOrder
+begins starts joins h l =
+    let first : getD (set starts 0 0) 0 0 ≡ 0 = getD-set-same starts 0 0 0 (omega arith) in
+    let second : getD (set joins 0 1) 0 0 ≡ 1 = getD-set-same joins 0 1 0 (omega arith) in
+    record {
+      begun-one = refl;
+      bags = rw first (rw second refl);
+      room-after = record {
+        starts-fit = omega (arith, length-set starts 0 0);
+        joins-fit = omega (arith, length-set joins 0 1);
+        pairs-fit = omega arith;
+        main-open = omega arith;
+        in-order = (omega arith, omega arith, first);
+      };
+    }
+
+-- A spawn that is not refused finds room for its pair.
+pub record Free (starts joins : List ℕ) (runs : Runs) : Type 0 where
+  pub small : runs .pairs < room
+  pub in-starts : runs .pairs < length starts
+  pub in-joins : runs .pairs < length joins
+
+pub room-left : (starts joins : List ℕ) (runs : Runs) → Room starts joins runs → runs .begun < mostBegun → Free starts joins runs
+room-left starts joins runs h few =
+    let few-pairs : runs .pairs ≤ runs .begun = pairs-begun starts joins (runs .pairs) (runs .begun) (h .in-order) in
+    record { small = omega arith; in-starts = omega (arith, h .starts-fit); in-joins = omega (arith, h .joins-fit) }
+
+spawns : (starts joins : List ℕ) (runs : Runs) → Room starts joins runs → runs .begun < mostBegun
+    → Carries spawn starts joins runs (set starts (runs .pairs) (runs .begun)) (set joins (runs .pairs) (suc (runs .begun)))
+    (record { pairs = suc (runs .pairs); begun = suc (runs .begun) })
+unfolding begunAfter
+spawns starts joins runs h few =
+    let left : Free starts joins runs = room-left starts joins runs h few in
+    carried spawn starts joins (set starts (runs .pairs) (runs .begun)) (set joins (runs .pairs) (suc (runs .begun))) runs
+    (record { pairs = suc (runs .pairs); begun = suc (runs .begun) }) h
+    (length-set starts (runs .pairs) (runs .begun)) (length-set joins (runs .pairs) (suc (runs .begun))) (left .small) refl
+    (pairs-spawned starts joins (runs .pairs) (runs .begun) (left .in-starts) (left .in-joins))
+
+-- What `spawn` promises, where it refuses and where it does not.
+pub refused : (starts joins : List ℕ) (runs : Runs) → mostBegun ≤ runs .begun
+    → (Full ≡ spawned runs) × ((starts ≡ pushed runs (runs .begun) starts) × ((joins ≡ pushed runs (runs .begun + 1) joins) × Unit {0}))
+unfolding spawned pushed
+refused starts joins runs many = rw (le-ltb _ _ many) (refl, (refl, (refl, tt)))
+
+pub begun : (starts joins : List ℕ) (runs : Runs) → Room starts joins runs → runs .begun < mostBegun
+    → let runs′ : Runs = record { pairs = runs .pairs + 1; begun = runs .begun + 1 } in
+    let starts′ : List ℕ = set starts (runs .pairs) (runs .begun) in
+    let joins′ : List ℕ = set joins (runs .pairs) (runs .begun + 1) in
+    (Begun runs′ ≡ spawned runs)
+    × ((starts′ ≡ pushed runs (runs .begun) starts)
+    × ((joins′ ≡ pushed runs (runs .begun + 1) joins) × Carries spawn starts joins runs starts′ joins′ runs′))
+unfolding spawned pushed
+begun starts joins runs h few =
+    rw (lt-ltb _ _ few) (refl, (refl, (refl, rw (one-more (runs .pairs), one-more (runs .begun)) (spawns starts joins runs h few))))
+
+pub syncs : (starts joins : List ℕ) (runs : Runs) → Room starts joins runs
+    → Carries sync starts joins runs starts (set joins (runs .pairs - 1) (runs .begun)) runs
+unfolding begunAfter
+syncs starts joins runs h =
+    carried sync starts joins starts (set joins (runs .pairs - 1) (runs .begun)) runs runs h refl
+    (length-set joins (runs .pairs - 1) (runs .begun)) (h .pairs-fit) refl
+    (pairs-synced starts joins (runs .pairs) (runs .begun) (h .main-open)
+    (omega (arith, h .joins-fit, h .pairs-fit)))
+
+pub returned : (starts joins : List ℕ) (runs : Runs) → Room starts joins runs
+    → Carries return starts joins runs starts joins (record { pairs = runs .pairs - 1; begun = runs .begun })
+unfolding begunAfter
+returned starts joins runs h =
+    carried return starts joins starts joins runs (record { pairs = runs .pairs - 1; begun = runs .begun }) h refl refl (omega (arith, h .pairs-fit)) refl
+    (pairs-returned starts joins (runs .pairs) (runs .begun) (h .main-open))
+
+-- The top pair is the running procedure's.
+runner-on-top : (starts joins : List ℕ) (d n : ℕ) → 0 < d → runner (asBags (pairsIn starts joins d) n) ≡ getD starts (d - 1) 0
+unfolding runner asBags pairsIn headD
+runner-on-top starts joins zero n some = absurd (omega arith)
+runner-on-top starts joins (suc d) n some = rw (one-less d) refl
+
+pub runner-held : (starts joins : List ℕ) (runs : Runs) → 0 < runs .pairs → runner (held starts joins runs) ≡ getD starts (runs .pairs - 1) 0
+unfolding held
+runner-held starts joins runs some = runner-on-top starts joins (runs .pairs) (runs .begun) some
+
+-- ---- The question -----------------------------------------------------------------------------------------------------------------------------
+
+-- Each of the pairs starts below the end.
+starts-below-end : (starts joins : List ℕ) (d n i : ℕ) → InOrder (pairsIn starts joins d) n → i < d → getD starts i 0 < n
+unfolding InOrder pairsIn
+starts-below-end starts joins zero n i h l = absurd (omega arith)
+starts-below-end starts joins (suc d) n i h l =
+    elim (decLt i d) [
+      | yes below ↦ omega (arith, h .0, h .1, starts-below-end starts joins d (getD starts d 0) i (h .2) below)
+      | no top ↦ same i (omega arith)
+    ]
+  where
+    same : (i : ℕ) → i ≡ d → getD starts i 0 < n
+    same i e = rw e (omega (arith, h .0, h .1))
+
+-- The last pair that starts at or below p holds p, and p is in a P-bag exactly if that pair's join is at or below it.
+in-P-at : (starts joins : List ℕ) (d n at p : ℕ) → InOrder (pairsIn starts joins d) n → at < d → getD starts at 0 ≤ p → p < n
+    → (suc at < d → p < getD starts (suc at) 0) → inPBag p (asBags (pairsIn starts joins d) n) ≡ leb (getD joins at 0) p
+unfolding inPBag asBags InOrder pairsIn
+in-P-at starts joins zero n at p h l from to next = absurd (omega arith)
+in-P-at starts joins (suc d) n at p h l from to next =
+    elim (decLt at d) [
+      | yes below ↦
+          let above : p < getD starts d 0 = below-top below in
+          rw (member-run p (getD joins d 0) n, between-under p (getD joins d 0) n (omega (arith, h .0)))
+          (in-P-at starts joins d (getD starts d 0) at p (h .2) below from above (λ m. next (omega arith)))
+      | no top ↦ here at (omega arith) from
+    ]
+  where
+    below-top : at < d → p < getD starts d 0
+    below-top below =
+        elim (decLt (suc at) d) [
+          | yes deep ↦ omega (arith, next (omega arith), starts-below-end starts joins d (getD starts d 0) (suc at) (h .2) deep)
+          | no near ↦ let e : suc at ≡ d = omega arith in rw e at (next (omega arith))
+        ]
+
+    here : (at : ℕ) → at ≡ d → getD starts at 0 ≤ p
+        → (member p (run (getD joins d 0) n) || inPBag p (asBags (pairsIn starts joins d) (getD starts d 0))) ≡ leb (getD joins at 0) p
+    here at e from =
+        rw e
+        (rw (
+          member-run p (getD joins d 0) n,
+          lt-ltb p n to,
+          in-none-above p (getD starts d 0) (pairsIn starts joins d) (h .2) (rw e at from) .1,
+          or-false (leb (getD joins d 0) p && true),
+        )
+        (and-true (leb (getD joins d 0) p)))
+
+-- The lowest pair is main's, so main is open exactly if there is a pair.
+lowest-start : (starts joins : List ℕ) (d n : ℕ) → InOrder (pairsIn starts joins d) n → 0 < d → getD starts 0 0 ≡ 0
+unfolding InOrder pairsIn
+lowest-start starts joins zero n h some = absurd (omega arith)
+lowest-start starts joins (suc zero) n h some = h .2
+lowest-start starts joins (suc (suc d)) n h some = lowest-start starts joins (suc d) (getD starts (suc d) 0) (h .2) (omega arith)
+
+pub main-owns : (starts joins : List ℕ) (d n : ℕ) → (0 < d → InOrder (pairsIn starts joins d) n)
+    → member 0 (map (λ (b : Bags). b .owner) (asBags (pairsIn starts joins d) n)) ≡ ltb 0 d
+unfolding member asBags pairsIn InOrder
+main-owns starts joins zero n h = refl
+main-owns starts joins (suc zero) n h = rw (h (omega arith) .2) refl
+main-owns starts joins (suc (suc d)) n h =
+    rw (main-owns starts joins (suc d) (getD starts (suc d) 0) (λ some. h (omega arith) .2))
+    (rw (lt-ltb 0 (suc d) (omega arith), lt-ltb 0 (suc (suc d)) (omega arith)) (or-true (eqb 0 (getD starts (suc d) 0))))
+
+-- What the search asks for.
+pub searchable : (starts joins : List ℕ) (runs : Runs) (p : ℕ) → Room starts joins runs
+    → (runs .pairs - 1 < length starts) × ((runs .pairs - 1 < room) × (getD starts 0 0 ≤ p))
+searchable starts joins runs p h =
+    let lowest : getD starts 0 0 ≡ 0 = lowest-start starts joins (runs .pairs) (runs .begun) (h .in-order) (h .main-open) in
+    (omega (arith, h .main-open, h .pairs-fit, h .starts-fit), (omega (arith, h .main-open, h .pairs-fit), omega arith))
+
+-- The place that it finds lies in the joins.
+pub in-joins : (starts joins : List ℕ) (runs : Runs) (p at : ℕ) → Room starts joins runs → Found starts (runs .pairs - 1) p at
+    → (at < room) × (at < length joins)
+in-joins starts joins runs p at h f =
+    let inside : runs .pairs - 1 < room = searchable starts joins runs p h .1 .0 in
+    (omega (arith, f .within), omega (arith, f .within, h .joins-fit))
+
+-- The three answers.
+pub asked-above : (starts joins : List ℕ) (runs : Runs) (p : ℕ) → Room starts joins runs → runs .begun ≤ p → NoBag ≡ asked p (held starts joins runs)
+unfolding held asked
+asked-above starts joins runs p h above =
+    let none = in-none-above p (runs .begun) (pairsIn starts joins (runs .pairs)) (h .in-order) above in
+    rw (none .1, none .0) refl
+
+asked-below : (starts joins : List ℕ) (runs : Runs) (p at : ℕ) → Room starts joins runs → p < runs .begun → Found starts (runs .pairs - 1) p at
+    → asked p (held starts joins runs) ≡ cond (leb (getD joins at 0) p) Parallel Series
+unfolding held asked
+asked-below starts joins runs p at h below f =
+    let yes-or-no = in-P-at starts joins (runs .pairs) (runs .begun) at p (h .in-order) (omega (arith, f .within, h .main-open)) (f .starts-below) below
+    (λ l. f .next-above (omega arith)) in
+    rw (in-S-or-P p (runs .begun) (pairsIn starts joins (runs .pairs)) (h .in-order) below, yes-or-no) (either (leb (getD joins at 0) p))
+  where
+    either : (b : Bool) → cond b Parallel (cond (not b) Series NoBag) ≡ cond b Parallel Series
+    either true = refl
+    either false = refl
+
+pub asked-parallel : (starts joins : List ℕ) (runs : Runs) (p at : ℕ) → Room starts joins runs → p < runs .begun
+    → Found starts (runs .pairs - 1) p at → getD joins at 0 ≤ p → Parallel ≡ asked p (held starts joins runs)
+asked-parallel starts joins runs p at h below f joined = sym (asked-below starts joins runs p at h below f ∙ rw (le-leb _ _ joined) refl)
+
+pub asked-series : (starts joins : List ℕ) (runs : Runs) (p at : ℕ) → Room starts joins runs → p < runs .begun
+    → Found starts (runs .pairs - 1) p at → p < getD joins at 0 → Series ≡ asked p (held starts joins runs)
+asked-series starts joins runs p at h below f early = sym (asked-below starts joins runs p at h below f ∙ rw (lt-leb _ _ early) refl)
+
+-- Whoever has begun is in a bag, and nobody else.
+pub in-some : (starts joins : List ℕ) (runs : Runs) (p : ℕ) → Room starts joins runs → ltb p (runs .begun) ≡ inSomeBag p (held starts joins runs)
+unfolding held inSomeBag
+in-some starts joins runs p h =
+    elim (decLt p (runs .begun)) [
+      | yes below ↦
+          rw (lt-ltb _ _ below, in-S-or-P p (runs .begun) (pairsIn starts joins (runs .pairs)) (h .in-order) below)
+          (sym (one-of-two (inPBag p (asBags (pairsIn starts joins (runs .pairs)) (runs .begun)))))
+      | no above ↦
+          let none = in-none-above p (runs .begun) (pairsIn starts joins (runs .pairs)) (h .in-order) (omega arith) in
+          rw (le-ltb p (runs .begun) (omega arith), none .0, none .1) refl
+    ]
+  where
+    one-of-two : (b : Bool) → (not b || b) ≡ true
+    one-of-two true = refl
+    one-of-two false = refl

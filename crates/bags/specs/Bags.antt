@@ -1,0 +1,57 @@
+-- The SP-bags of 002, as it makes them from the events before: each open procedure has an S-bag and a P-bag of procedures.
+use Prim.Native.Nat.{ℕ, zero, suc, _+_}
+use mathlib.Core.Bool.{Bool, false, cond, _||_}
+use mathlib.Core.List.{List, [], _∷_, _++_}
+use lib.Dec.{eqb}
+use Rattle.bags.specs.Parallel.{Act, spawn, return, sync, other, member, begun}
+
+-- The bags of one open procedure.
+pub record Bags : Type 0 where
+  pub owner : ℕ
+  pub S : List ℕ
+  pub P : List ℕ
+
+-- A procedure begins: it is alone in its S-bag, and its P-bag is empty.
+unfoldable pub bagsOfNew : ℕ → Bags
+bagsOfNew p = record { owner = p; S = p ∷ []; P = [] }
+
+-- A sync empties the P-bag of the running procedure, whose bags stand first, into its S-bag.
+unfoldable pub synced : List Bags → List Bags
+synced [] = []
+synced (b ∷ bs) = record { owner = b .owner; S = b .S ++ b .P; P = [] } ∷ bs
+
+-- A procedure returns: what its S-bag holds goes into the P-bag of the one that spawned it.
+unfoldable pub handed : List Bags → List Bags
+handed [] = []
+handed (c ∷ []) = []
+handed (c ∷ b ∷ bs) = record { owner = b .owner; S = b .S; P = b .P ++ c .S } ∷ bs
+
+-- What an event makes of the bags, n procedures having begun. A return carries an implied sync.
+unfoldable pub bagsAfter : Act → ℕ → List Bags → List Bags
+bagsAfter spawn n bs = bagsOfNew n ∷ bs
+bagsAfter return n bs = handed (synced bs)
+bagsAfter sync n bs = synced bs
+bagsAfter other n bs = bs
+
+-- The bags before event k, those of the running procedure first.
+unfoldable pub bags : (ℕ → Act) → ℕ → List Bags
+bags events zero = bagsOfNew 0 ∷ []
+bags events (suc k) = bagsAfter (events k) (begun events k) (bags events k)
+
+-- Is p in some S-bag? In some P-bag?
+unfoldable pub inSBag : ℕ → List Bags → Bool
+inSBag p [] = false
+inSBag p (b ∷ bs) = member p (b .S) || inSBag p bs
+
+unfoldable pub inPBag : ℕ → List Bags → Bool
+inPBag p [] = false
+inPBag p (b ∷ bs) = member p (b .P) || inPBag p bs
+
+-- In how many bags p is, a bag that holds it twice counting twice.
+unfoldable pub timesIn : ℕ → List ℕ → ℕ
+timesIn p [] = 0
+timesIn p (x ∷ xs) = cond (eqb p x) 1 0 + timesIn p xs
+
+unfoldable pub timesInBags : ℕ → List Bags → ℕ
+timesInBags p [] = 0
+timesInBags p (b ∷ bs) = timesIn p (b .S) + timesIn p (b .P) + timesInBags p bs
