@@ -15,8 +15,9 @@ use lib.Dec.{leb, ltb}
 use borrow.Author.Tests.{leb-true, ltb-true}
 use Rattle.bags.specs.Parallel.{Act, spawn, return, sync, other, member, begunAfter, opensAfter}
 use Rattle.bags.specs.Parallel.{begun, opens, mainOpen, maker, MatchingReturn, Parallel}
-use Rattle.bags.specs.Bags.{Bags, bagsOfNew, bagsAfter, bags, inPBag}
+use Rattle.bags.specs.Bags.{bagsOfNew, bagsAfter, bags, inPBag}
 use Rattle.bags.specs.Runs.{Pair, numbersFrom, run, asBags, InOrder}
+use Rattle.bags.proofs.Witness.{serves, serves-earlier}
 use Rattle.bags.proofs.Stack.{begun-grows, main-open-before, maker-begun, started, in-body, stack-back}
 use Rattle.bags.proofs.Runs.{joined, pairsAfter, bags-after, in-order-after, between-yes, member-run}
 
@@ -38,12 +39,6 @@ starts-after return n (x ∷ ps) = refl
 starts-after sync n [] = refl
 starts-after sync n (x ∷ ps) = refl
 starts-after other n ps = refl
-
--- The bags that pairs stand for are owned by the starts.
-owners-are-starts : (ps : List Pair) (n : ℕ) → map (λ (b : Bags). b .owner) (asBags ps n) ≡ starts ps
-unfolding asBags
-owners-are-starts [] n = refl
-owners-are-starts (x ∷ ps) n = ap (λ (gs : List ℕ). x .start ∷ gs) (owners-are-starts ps (x .start))
 
 -- ---- P-runs of pairs
 
@@ -200,43 +195,18 @@ module _ (events : ℕ → Act) where
   pub maker-begun-later : (i j : ℕ) → i ≤ j → mainOpen events j ≡ true → maker events i < begun events j
   maker-begun-later i j h main = omega (arith, maker-begun events i (main-open-before events i j h main), begun-grows events i j h)
 
-  -- A witness for the event after j whose return comes before j is one for j;
-  shorter : (i j : ℕ) (w : Parallel events i (suc j)) → w .r < j → Parallel events i j
-  shorter i j w h =
-      record {
-        s = w .s;
-        G = w .G;
-        made-by-G = w .made-by-G;
-        r = w .r;
-        matching = w .matching;
-        s<i = w .s<i;
-        i<r = w .i<r;
-        r<j = h;
-        no-sync-of-G = λ k from to. w .no-sync-of-G k from (omega arith);
-        no-return-of-G = λ k from to. w .no-return-of-G k from (omega arith);
-      }
-
-  -- and one for j is one for the event after j, unless its procedure syncs or returns at j.
-  longer : (i j : ℕ) (w : Parallel events i j) → (events j ≡ sync → maker events j ≢ w .G) → (events j ≡ return → maker events j ≢ w .G)
+  -- A witness for j is one for the event after j, unless its procedure syncs or returns at j.
+  unfoldable longer : (i j : ℕ) (w : Parallel events i j) → (events j ≡ sync → maker events j ≢ w .G) → (events j ≡ return → maker events j ≢ w .G)
       → Parallel events i (suc j)
   longer i j w no-sync no-return =
-      record {
-        s = w .s;
-        G = w .G;
-        made-by-G = w .made-by-G;
-        r = w .r;
-        matching = w .matching;
-        s<i = w .s<i;
-        i<r = w .i<r;
-        r<j = omega (arith, w .r<j);
-        no-sync-of-G = λ k from to e q. go sync k (λ a b. w .no-sync-of-G k a b) no-sync from (last-or-before k j to) e q;
-        no-return-of-G = λ k from to e q. go return k (λ a b. w .no-return-of-G k a b) no-return from (last-or-before k j to) e q;
-      }
+      serves events i j i (suc j) w (w .s<i) (w .i<r) (omega (arith, w .r<j))
+      (λ k from to. go sync k (w .no-sync-of-G k from) no-sync (last-or-before k j to))
+      (λ k from to. go return k (w .no-return-of-G k from) no-return (last-or-before k j to))
     where
-      go : (act : Act) (k : ℕ) → (w .r < k → k < j → events k ≡ act → maker events k ≢ w .G) → (events j ≡ act → maker events j ≢ w .G)
-          → w .r < k → (k ≡ j) ⊎ (k < j) → events k ≡ act → maker events k ≢ w .G
-      go act k old new from (inl same) e q = new (ap events (sym same) ∙ e) (ap (maker events) (sym same) ∙ q)
-      go act k old new from (inr before) e q = old from before e q
+      go : (act : Act) (k : ℕ) → (k < j → events k ≡ act → maker events k ≢ w .G) → (events j ≡ act → maker events j ≢ w .G)
+          → (k ≡ j) ⊎ (k < j) → events k ≡ act → maker events k ≢ w .G
+      go act k old new (inl same) e q = new (ap events (sym same) ∙ e) (ap (maker events) (sym same) ∙ q)
+      go act k old new (inr before) e q = old before e q
 
   -- After a matching return whoever made the spawn runs again, and the last pair starts with it.
   top-at-return : (s r : ℕ) → MatchingReturn events s r → top (pairs (suc r)) ≡ maker events s
@@ -262,7 +232,7 @@ module _ (events : ℕ → Act) where
 
   -- and so it is until the procedure syncs or returns.
   witness-in-P : (j i : ℕ) → mainOpen events j ≡ true → (w : Parallel events i j) → InP (w .G) (maker events i) (pairs j) (begun events j)
-  unfolding pairs begun shorter
+  unfolding pairs begun serves-earlier serves
   witness-in-P zero i main w = absurd (omega (arith, w .r<j))
   witness-in-P (suc j) i main w = go (witness-in-P j i before) (last-or-before (w .r) j (w .r<j))
     where
@@ -275,7 +245,7 @@ module _ (events : ℕ → Act) where
       go old (inr earlier) =
           stays-in-P (events j) (w .G) (maker events i) (begun events j) (pairs j)
           (λ e q. w .no-sync-of-G j earlier (omega arith) e (sym (top-is-maker j) ∙ q))
-          (λ e q. w .no-return-of-G j earlier (omega arith) e (sym (top-is-maker j) ∙ q)) (in-order j before) (old (shorter i j w earlier))
+          (λ e q. w .no-return-of-G j earlier (omega arith) e (sym (top-is-maker j) ∙ q)) (in-order j before) (old (serves-earlier events i (suc j) i j w (w .s<i) (w .i<r) earlier (omega arith)))
 
   -- The body of a procedure that returns: an event in it is parallel with the event after the return.
   witness-of-body : (G i j : ℕ) → i < j → mainOpen events (suc j) ≡ true → events j ≡ return → G < top (pairs j) → top (pairs j) ≤ maker events i
@@ -309,7 +279,7 @@ module _ (events : ℕ → Act) where
   -- Whoever is in G's P-run has a witness made by G.
   in-P-witness : (j i G : ℕ) → i < j → events i ≢ return → mainOpen events j ≡ true → InP G (maker events i) (pairs j) (begun events j)
       → (w : Parallel events i j) × (w .G ≡ G)
-  unfolding pairs begun longer
+  unfolding pairs begun longer serves
   in-P-witness zero i G h going main o = absurd (omega arith)
   in-P-witness (suc j) i G h going main o = go (last-or-before i j h) (λ m. in-P-witness j i G m going before)
     where

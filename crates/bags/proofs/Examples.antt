@@ -1,7 +1,7 @@
 -- 01's small traces with parallelism and Figure 1 of 002, evaluated: antt computes each line from the definitions. Of the events only spawn, return and
 -- sync are told apart; an access, a lock and an unlock are `other`. Assumes nothing.
 use Prim.Native.Nat.{ℕ}
-use mathlib.Core.Path.{_≡_, refl, sym}
+use mathlib.Core.Path.{_≡_, refl, sym, ap}
 use mathlib.Core.Logic.{_≢_}
 use mathlib.Core.Bool.{cond, true≢false}
 use mathlib.Core.List.{List, [], _∷_, _++_, headD, map}
@@ -15,7 +15,7 @@ use Rattle.bags.specs.Parallel.{Act, spawn, return, sync, other, member,
 use Rattle.bags.specs.Bags.{bagsOfNew, synced, handed, bagsAfter, bags, inSBag, inPBag}
 use Rattle.bags.specs.Runs.{numbersFrom, run, asBags, pairsIn, held}
 use Rattle.bags.specs.Ask.{asked}
-use Rattle.bags.specs.Steps.{spawned, pushed}
+use Rattle.bags.specs.Steps.{Carries, spawned, pushed}
 use Rattle.bags.proofs.Laws.{bags-agree}
 
 -- The events of a list, by their numbers.
@@ -137,10 +137,24 @@ pub pieces-as-known :
     ≡ answer.Series ∷ answer.Series ∷ answer.Parallel ∷ answer.Series ∷ answer.NoBag ∷ [])
     × (answers (0 ∷ 1 ∷ 3 ∷ []) (1 ∷ 4 ∷ 4 ∷ []) (record { pairs = 2; begun = 4 }) (0 ∷ 1 ∷ 2 ∷ 3 ∷ 4 ∷ [])
     ≡ answer.Series ∷ answer.Series ∷ answer.Series ∷ answer.Series ∷ answer.NoBag ∷ [])
+    -- Five procedures, each spawned by the one before, all open.
+    × (answers (0 ∷ 1 ∷ 2 ∷ 3 ∷ 4 ∷ []) (1 ∷ 2 ∷ 3 ∷ 4 ∷ 5 ∷ []) (record { pairs = 5; begun = 5 }) (0 ∷ 1 ∷ 2 ∷ 3 ∷ 4 ∷ 5 ∷ [])
+    ≡ answer.Series ∷ answer.Series ∷ answer.Series ∷ answer.Series ∷ answer.Series ∷ answer.NoBag ∷ [])
     -- The last procedure that may begin, and the first that may not.
     × (spawned (record { pairs = 2; begun = 4095 }) ≡ Begun (record { pairs = 3; begun = 4096 }))
     × (spawned (record { pairs = 2; begun = 4096 }) ≡ Full)
     × (pushed (record { pairs = 2; begun = 4095 }) 7 (0 ∷ 1 ∷ 3 ∷ []) ≡ 0 ∷ 1 ∷ 7 ∷ [])
     × (pushed (record { pairs = 2; begun = 4096 }) 7 (0 ∷ 1 ∷ 3 ∷ []) ≡ 0 ∷ 1 ∷ 3 ∷ [])
 unfolding member inSBag inPBag numbersFrom run asBags pairsIn held asked spawned pushed
-pieces-as-known = (refl, refl, refl, refl, refl, refl, refl)
+pieces-as-known = (refl, refl, refl, refl, refl, refl, refl, refl)
+
+-- A sync that also clears the children of the caller's parents breaks the contract: here 1 has returned to main, 2 runs and syncs, and 1 would no
+-- longer be in main's P-bag.
+pub parents-cleared : Carries sync (0 ∷ 2 ∷ []) (1 ∷ 3 ∷ []) (record { pairs = 2; begun = 3 }) (0 ∷ 2 ∷ []) (2 ∷ 3 ∷ []) (record { pairs = 2; begun = 3 }) → ⊥
+unfolding member synced bagsAfter inPBag numbersFrom run asBags pairsIn held
+parents-cleared c = true≢false (sym (ap (inPBag 1) (c .bags)))
+
+-- So does a return that carries no implied sync: 1 has spawned 2, which has returned to it, and returns itself, and 2 would be in no bag.
+pub no-implied-sync : Carries return (0 ∷ 1 ∷ []) (1 ∷ 2 ∷ []) (record { pairs = 2; begun = 3 }) (0 ∷ 1 ∷ []) (1 ∷ 2 ∷ []) (record { pairs = 1; begun = 2 }) → ⊥
+unfolding member synced handed bagsAfter inPBag numbersFrom run asBags pairsIn held
+no-implied-sync c = true≢false (sym (ap (inPBag 2) (c .bags)))

@@ -4,8 +4,8 @@ use mathlib.Core.Path.{_≡_, refl, sym, ap, _∙_}
 use mathlib.Core.List.{List, headD}
 use native.Mathlib.Nat.{le-refl}
 use native.Mathlib.Omega.{arith}
-use Rattle.bags.specs.Parallel.{Act, begun, opens, maker, Parallel}
-use Rattle.bags.specs.Bags.{bags}
+use Rattle.bags.specs.Parallel.{Act, opensAfter, begun, opens, maker, Parallel}
+use Rattle.bags.specs.Bags.{bagsAfter, bags}
 
 -- Two sequences with the same events before j.
 pub record SameBefore (j : ℕ) (events events′ : ℕ → Act) : Type 0 where
@@ -22,21 +22,25 @@ later-begun zero events events′ w = refl
 later-begun (suc j) events events′ w =
     rw (w .same j (le-refl (suc j)), later-begun j events events′ (same-earlier j (suc j) events events′ (omega arith) w))
 
--- so are the open procedures,
+-- so is whatever each event makes anew of itself and that number,
+module _ {A : Type 0} (state : (ℕ → Act) → ℕ → A) (after : Act → ℕ → A → A) (first : (events events′ : ℕ → Act) → state events 0 ≡ state events′ 0)
+    (next : (events : ℕ → Act) (k : ℕ) → state events (suc k) ≡ after (events k) (begun events k) (state events k)) where
+  later-state : (j : ℕ) (events events′ : ℕ → Act) → SameBefore j events events′ → state events j ≡ state events′ j
+  later-state zero events events′ w = first events events′
+  later-state (suc j) events events′ w =
+      let before = same-earlier j (suc j) events events′ (omega arith) w in
+      next events j
+      ∙ rw (w .same j (le-refl (suc j)), later-begun j events events′ before, later-state j events events′ before) (sym (next events′ j))
+
+-- the open procedures,
 pub later-opens : (j : ℕ) (events events′ : ℕ → Act) → SameBefore j events events′ → opens events j ≡ opens events′ j
 unfolding opens
-later-opens zero events events′ w = refl
-later-opens (suc j) events events′ w =
-    let before = same-earlier j (suc j) events events′ (omega arith) w in
-    rw (w .same j (le-refl (suc j)), later-begun j events events′ before, later-opens j events events′ before)
+later-opens = later-state opens opensAfter (λ events events′. refl) (λ events k. refl)
 
 -- the bags,
 pub later-bags : (j : ℕ) (events events′ : ℕ → Act) → SameBefore j events events′ → bags events j ≡ bags events′ j
 unfolding bags
-later-bags zero events events′ w = refl
-later-bags (suc j) events events′ w =
-    let before = same-earlier j (suc j) events events′ (omega arith) w in
-    rw (w .same j (le-refl (suc j)), later-begun j events events′ before, later-bags j events events′ before)
+later-bags = later-state bags bagsAfter (λ events events′. refl) (λ events k. refl)
 
 -- who makes an event,
 later-maker : (k j : ℕ) (events events′ : ℕ → Act) → k ≤ j → SameBefore j events events′ → maker events k ≡ maker events′ k

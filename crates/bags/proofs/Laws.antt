@@ -19,7 +19,7 @@ use Rattle.bags.specs.Runs.{held, Room}
 use Rattle.bags.specs.Ask.{asked, inSomeBag}
 use Rattle.bags.specs.Steps.{runner, Begins, Carries}
 use Rattle.bags.proofs.Stack.{running, never-again, stack-back}
-use Rattle.bags.proofs.Runs.{times-above, times-below, in-S-or-P}
+use Rattle.bags.proofs.Runs.{in-none-above, once-below, in-S-or-P}
 -- Later events change nothing, neither about the procedures begun and open, nor about the bags, nor about who is parallel with whom.
 pub use Rattle.bags.proofs.Later.{SameBefore, later-begun, later-opens, later-bags, later-parallel}
 -- The two laws of 002, for the definition of parallel, each with the premises that it needs and no other.
@@ -36,14 +36,16 @@ bags-agree events i j h going main = (parallel-in-P-bag events i j main, in-P-ba
 
 -- While main is open every procedure begun is in exactly one bag, which is an S-bag or a P-bag, and nobody else is in any;
 pub in-one-bag : (events : ℕ → Act) (k p : ℕ) → mainOpen events k ≡ true → p < begun events k → timesInBags p (bags events k) ≡ 1
-in-one-bag events k p main h = rw (bags-are-runs events k main) (times-below p (begun events k) (pairs events k) (in-order events k main) h)
+in-one-bag events k p main h = rw (bags-are-runs events k main) (once-below p (begun events k) (pairs events k) (in-order events k main) h)
 
 pub in-one-kind : (events : ℕ → Act) (k p : ℕ) → mainOpen events k ≡ true → p < begun events k
     → inSBag p (bags events k) ≡ not (inPBag p (bags events k))
 in-one-kind events k p main h = rw (bags-are-runs events k main) (in-S-or-P p (begun events k) (pairs events k) (in-order events k main) h)
 
 pub in-no-bag : (events : ℕ → Act) (k p : ℕ) → mainOpen events k ≡ true → begun events k ≤ p → timesInBags p (bags events k) ≡ 0
-in-no-bag events k p main h = rw (bags-are-runs events k main) (times-above p (begun events k) (pairs events k) (in-order events k main) h)
+in-no-bag events k p main h =
+    rw (bags-are-runs events k main)
+    (ap (λ (u : ℕ × Bool × Bool). u .0) (in-none-above p (begun events k) (pairs events k) (in-order events k main) h))
 
 -- What an event makes of the bags' owners is what it makes of the open procedures.
 owners-after : (act : Act) (n : ℕ) (bs : List Bags)

@@ -1,4 +1,5 @@
 pub mod Stack
+pub mod Witness
 pub mod TwoLaws
 pub mod Later
 pub mod Runs

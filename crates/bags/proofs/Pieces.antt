@@ -226,7 +226,7 @@ in-P-at starts joins (suc d) n at p h l from to next =
         (rw (
           member-run p (getD joins d 0) n,
           lt-ltb p n to,
-          in-none-above p (getD starts d 0) (pairsIn starts joins d) (h .2) (rw e at from) .1,
+          ap (λ (u : ℕ × Bool × Bool). u .2) (in-none-above p (getD starts d 0) (pairsIn starts joins d) (h .2) (rw e at from)),
           or-false (leb (getD joins d 0) p && true),
         )
         (and-true (leb (getD joins d 0) p)))
@@ -266,7 +266,7 @@ pub asked-above : (starts joins : List ℕ) (runs : Runs) (p : ℕ) → Room sta
 unfolding held asked
 asked-above starts joins runs p h above =
     let none = in-none-above p (runs .begun) (pairsIn starts joins (runs .pairs)) (h .in-order) above in
-    rw (none .1, none .0) refl
+    rw (ap (λ (u : ℕ × Bool × Bool). u .2) none, ap (λ (u : ℕ × Bool × Bool). u .1) none) refl
 
 asked-below : (starts joins : List ℕ) (runs : Runs) (p at : ℕ) → Room starts joins runs → p < runs .begun → Found starts (runs .pairs - 1) p at
     → asked p (held starts joins runs) ≡ cond (leb (getD joins at 0) p) Parallel Series
@@ -298,7 +298,7 @@ in-some starts joins runs p h =
           (sym (one-of-two (inPBag p (asBags (pairsIn starts joins (runs .pairs)) (runs .begun)))))
       | no above ↦
           let none = in-none-above p (runs .begun) (pairsIn starts joins (runs .pairs)) (h .in-order) (omega arith) in
-          rw (le-ltb p (runs .begun) (omega arith), none .0, none .1) refl
+          rw (le-ltb p (runs .begun) (omega arith)) (sym (ap (λ (u : ℕ × Bool × Bool). u .1 || u .2) none))
     ]
   where
     one-of-two : (b : Bool) → (not b || b) ≡ true

@@ -4,7 +4,7 @@
 -- lying below the first pair's runs, in its S-run or in its P-run. Assumes nothing.
 use Prim.Native.Nat.{ℕ, zero, suc, _+_, _-_, _<_, _≤_}
 use mathlib.Core.Path.{_≡_, refl, sym, ap, ap₂, _∙_}
-use mathlib.Core.Logic.{_≢_}
+use mathlib.Core.Logic.{_≢_, _⊎_, inl, inr, ⊎-elim, ⊎-map}
 use mathlib.Core.Bool.{Bool, true, false, cond, not, _&&_, _||_, and-false}
 use mathlib.Core.List.{List, [], _∷_, _++_, tail}
 use native.Mathlib.Nat.{sub-self, zero-add}
@@ -13,7 +13,7 @@ use native.Mathlib.Decide.{decLt}
 use lib.Dec.{eqb, leb, ltb}
 use borrow.Author.Tests.{lt-ltb, le-ltb, le-leb, lt-leb, eq-eqb, ne-eqb}
 use Rattle.bags.specs.Parallel.{Act, spawn, return, sync, other, member, begunAfter}
-use Rattle.bags.specs.Bags.{bagsOfNew, synced, handed, bagsAfter, inSBag, inPBag, timesIn, timesInBags}
+use Rattle.bags.specs.Bags.{Bags, bagsOfNew, synced, handed, bagsAfter, inSBag, inPBag, timesIn, timesInBags}
 use Rattle.bags.specs.Runs.{Pair, numbersFrom, run, asBags, InOrder}
 
 -- ---- runs end to end
@@ -134,66 +134,59 @@ times-run p a b = go (b - a) a refl
 
 -- ---- who is in the bags that pairs stand for
 
+-- What is told of p: in how many of the bags it is, whether in an S-bag, and whether in a P-bag.
+abbrev pub told : ℕ → List Bags → ℕ × Bool × Bool
+told p bs = (timesInBags p bs, inSBag p bs, inPBag p bs)
+
+-- One pair more adds what its two runs tell.
+told-more : (p n : ℕ) (x : Pair) (ps : List Pair) (serial beside : Bool) → between p (x .start) (x .join) ≡ serial → between p (x .join) n ≡ beside
+    → (times : ℕ) (series parallel : Bool) → told p (asBags ps (x .start)) ≡ (times, series, parallel)
+    → told p (asBags (x ∷ ps) n) ≡ (cond serial 1 0 + cond beside 1 0 + times, serial || series, beside || parallel)
+unfolding timesInBags inSBag inPBag asBags
+told-more p n x ps serial beside s b times series parallel rest =
+    rw (times-run p (x .start) (x .join), times-run p (x .join) n, member-run p (x .start) (x .join), member-run p (x .join) n, s, b)
+    (ap (λ (t : ℕ × Bool × Bool). (cond serial 1 0 + cond beside 1 0 + t .0, serial || t .1, beside || t .2)) rest)
+
 -- Nobody from the end on is in any of them,
-pub times-above : (p n : ℕ) (ps : List Pair) → InOrder ps n → n ≤ p → timesInBags p (asBags ps n) ≡ 0
-unfolding timesInBags asBags InOrder
-times-above p n [] h m = refl
-times-above p n (x ∷ ps) h m =
-    rw (times-run p (x .start) (x .join), times-run p (x .join) n, between-over p (x .start) (x .join) (omega arith), between-over p (x .join) n m)
-    (omega (arith, times-above p (x .start) ps (h .2) (omega arith)))
-
-pub in-none-above : (p n : ℕ) (ps : List Pair) → InOrder ps n → n ≤ p → (inSBag p (asBags ps n) ≡ false) × (inPBag p (asBags ps n) ≡ false)
-unfolding inSBag inPBag asBags InOrder
-in-none-above p n [] h m = (refl, refl)
+pub in-none-above : (p n : ℕ) (ps : List Pair) → InOrder ps n → n ≤ p → told p (asBags ps n) ≡ (0, false, false)
+unfolding timesInBags inSBag inPBag asBags InOrder
+in-none-above p n [] h m = refl
 in-none-above p n (x ∷ ps) h m =
-    let below = in-none-above p (x .start) ps (h .2) (omega arith) in (
-      rw (member-run p (x .start) (x .join), between-over p (x .start) (x .join) (omega arith)) (below .0),
-      rw (member-run p (x .join) n, between-over p (x .join) n m) (below .1),
-    )
+    told-more p n x ps false false (between-over p (x .start) (x .join) (omega arith)) (between-over p (x .join) n m) 0 false false
+    (in-none-above p (x .start) ps (h .2) (omega arith))
 
--- every number below the end is in exactly one of them,
-pub times-below : (p n : ℕ) (ps : List Pair) → InOrder ps n → p < n → timesInBags p (asBags ps n) ≡ 1
-unfolding timesInBags asBags InOrder
-times-below p n [] h m = absurd (omega arith)
-times-below p n (x ∷ ps) h m =
-    rw (times-run p (x .start) (x .join), times-run p (x .join) n)
-    (elim (decLt p (x .start)) [
+-- and every number below the end is in exactly one of them, an S-bag or a P-bag.
+in-one-below : (p n : ℕ) (ps : List Pair) → InOrder ps n → p < n
+    → (told p (asBags ps n) ≡ (1, true, false)) ⊎ (told p (asBags ps n) ≡ (1, false, true))
+unfolding InOrder
+in-one-below p n [] h m = absurd (omega arith)
+in-one-below p n (x ∷ ps) h m =
+    elim (decLt p (x .start)) [
       | yes deep ↦
-          rw (between-under p (x .start) (x .join) deep, between-under p (x .join) n (omega arith))
-          (omega (arith, times-below p (x .start) ps (h .2) deep))
+          let more = told-more p n x ps false false (between-under p (x .start) (x .join) deep) (between-under p (x .join) n (omega arith)) 1 in
+          ⊎-map (more true false) (more false true) (in-one-below p (x .start) ps (h .2) deep)
       | no here ↦
+          let rest = in-none-above p (x .start) ps (h .2) (omega arith) in
           elim (decLt p (x .join)) [
             | yes serial ↦
-                rw (between-yes p (x .start) (x .join) (omega arith) serial, between-under p (x .join) n serial)
-                (omega (arith, times-above p (x .start) ps (h .2) (omega arith)))
+                inl
+                (told-more p n x ps true false (between-yes p (x .start) (x .join) (omega arith) serial) (between-under p (x .join) n serial) 0 false
+                false rest)
             | no beside ↦
-                rw (between-over p (x .start) (x .join) (omega arith), between-yes p (x .join) n (omega arith) m)
-                (omega (arith, times-above p (x .start) ps (h .2) (omega arith)))
+                inr
+                (told-more p n x ps false true (between-over p (x .start) (x .join) (omega arith)) (between-yes p (x .join) n (omega arith) m) 0 false
+                false rest)
           ]
-    ])
+    ]
 
--- and that is an S-bag exactly if it is no P-bag.
+pub once-below : (p n : ℕ) (ps : List Pair) → InOrder ps n → p < n → timesInBags p (asBags ps n) ≡ 1
+once-below p n ps h m =
+    let times : ℕ × Bool × Bool → ℕ = λ (u : ℕ × Bool × Bool). u .0 in
+    ⊎-elim (ap times) (ap times) (in-one-below p n ps h m)
+
 pub in-S-or-P : (p n : ℕ) (ps : List Pair) → InOrder ps n → p < n → inSBag p (asBags ps n) ≡ not (inPBag p (asBags ps n))
-unfolding inSBag inPBag asBags InOrder
-in-S-or-P p n [] h m = absurd (omega arith)
-in-S-or-P p n (x ∷ ps) h m =
-    rw (member-run p (x .start) (x .join), member-run p (x .join) n)
-    (elim (decLt p (x .start)) [
-      | yes deep ↦
-          rw (between-under p (x .start) (x .join) deep, between-under p (x .join) n (omega arith)) (in-S-or-P p (x .start) ps (h .2) deep)
-      | no here ↦
-          elim (decLt p (x .join)) [
-            | yes serial ↦
-                rw (
-                  between-yes p (x .start) (x .join) (omega arith) serial,
-                  between-under p (x .join) n serial,
-                  in-none-above p (x .start) ps (h .2) (omega arith) .1,
-                )
-            | no beside ↦
-                rw (
-                  between-over p (x .start) (x .join) (omega arith),
-                  between-yes p (x .join) n (omega arith) m,
-                  in-none-above p (x .start) ps (h .2) (omega arith) .0,
-                )
-          ]
-    ])
+in-S-or-P p n ps h m = ⊎-elim (both true false refl) (both false true refl) (in-one-below p n ps h m)
+  where
+    both : (series parallel : Bool) → series ≡ not parallel → told p (asBags ps n) ≡ (1, series, parallel)
+        → inSBag p (asBags ps n) ≡ not (inPBag p (asBags ps n))
+    both series parallel e t = ap (λ (u : ℕ × Bool × Bool). u .1) t ∙ e ∙ sym (ap (λ (u : ℕ × Bool × Bool). not (u .2)) t)

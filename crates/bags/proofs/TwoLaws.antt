@@ -12,32 +12,17 @@ use native.Mathlib.Decide.{decLt}
 use native.Mathlib.Omega.{arith}
 use lib.Arith.{lt-of-le-ne}
 use Rattle.bags.specs.Parallel.{Act, return, begun, opens, mainOpen, maker, Parallel}
+use Rattle.bags.proofs.Witness.{serves, serves-earlier}
 use Rattle.bags.proofs.Stack.{begun-grows, main-open-before, running, maker-begun, in-body, stack-back, bodies-nest}
 use Rattle.bags.proofs.Stack.{stays, below-top, maker-highest}
-
--- A witness of two events serves any two, the one in its body, the other after it and no later.
-same-witness : (events : ℕ → Act) (i j i′ j′ : ℕ) (p : Parallel events i j) → p .s < i′ → i′ < p .r → p .r < j′ → j′ ≤ j → Parallel events i′ j′
-same-witness events i j i′ j′ p h l o u =
-    record {
-      s = p .s;
-      G = p .G;
-      made-by-G = p .made-by-G;
-      r = p .r;
-      matching = p .matching;
-      s<i = h;
-      i<r = l;
-      r<j = o;
-      no-sync-of-G = λ k v w. p .no-sync-of-G k v (omega arith);
-      no-return-of-G = λ k v w. p .no-return-of-G k v (omega arith);
-    }
 
 -- Lemma 1 of 002: a precedes e, and is parallel with j; then e is parallel with j. It holds of any three events, the middle one no return.
 pub lemma-1 : (events : ℕ → Act) (a e j : ℕ) → a < e → e < j → events e ≢ return
     → (Parallel events a e → ⊥) → Parallel events a j → Parallel events e j
 lemma-1 events a e j h l no-return not-parallel p =
     elim (decLt e (p .r)) [
-      | yes o ↦ same-witness events a j e j p (omega arith) o (p .r<j) (le-refl j)
-      | no o ↦ absurd (not-parallel (same-witness events a j a e p (p .s<i) (p .i<r) (lt-of-le-ne (omega arith) apart) (omega arith)))
+      | yes o ↦ serves-earlier events a j e j p (omega arith) o (p .r<j) (le-refl j)
+      | no o ↦ absurd (not-parallel (serves-earlier events a j a e p (p .s<i) (p .i<r) (lt-of-le-ne (omega arith) apart) (omega arith)))
     ]
   where
     apart : p .r ≡ e → ⊥
@@ -84,7 +69,7 @@ pub lemma-2 : (events : ℕ → Act) (a e j : ℕ) → mainOpen events j ≡ tru
     → Parallel events a e → Parallel events e j → Parallel events a j
 lemma-2 events a e j main-open h l p q =
     elim (decLt (q .s) a) [
-      | yes o ↦ same-witness events e j a j q o (omega arith) (q .r<j) (le-refl j)
+      | yes o ↦ serves-earlier events e j a j q o (omega arith) (q .r<j) (le-refl j)
       | no o ↦ elim (decLt (q .s) (p .r)) [ yes u ↦ absurd (nested o u) | no u ↦ by-first (lt-of-le-ne (omega arith) apart) ]
     ]
   where
@@ -96,23 +81,14 @@ lemma-2 events a e j main-open h l p q =
 
     by-first : p .r < q .s → Parallel events a j
     by-first o =
-        record {
-          s = p .s;
-          G = p .G;
-          made-by-G = p .made-by-G;
-          r = p .r;
-          matching = p .matching;
-          s<i = p .s<i;
-          i<r = p .i<r;
-          r<j = omega arith;
-          no-sync-of-G = λ k u v y.
-              elim (decLt k e) [
-                | yes early ↦ p .no-sync-of-G k u early y
-                | no late ↦ later-by-second events a e j main-open p q o k (omega arith) v (λ w. q .no-sync-of-G k w v y)
-              ];
-          no-return-of-G = λ k u v y.
-              elim (decLt k e) [
-                | yes early ↦ p .no-return-of-G k u early y
-                | no late ↦ later-by-second events a e j main-open p q o k (omega arith) v (λ w. q .no-return-of-G k w v y)
-              ];
-        }
+        serves events a e a j p (p .s<i) (p .i<r) (omega arith)
+        (λ k from to y.
+        elim (decLt k e) [
+          | yes early ↦ p .no-sync-of-G k from early y
+          | no late ↦ later-by-second events a e j main-open p q o k (omega arith) to (λ after. q .no-sync-of-G k after to y)
+        ])
+        (λ k from to y.
+        elim (decLt k e) [
+          | yes early ↦ p .no-return-of-G k from early y
+          | no late ↦ later-by-second events a e j main-open p q o k (omega arith) to (λ after. q .no-return-of-G k after to y)
+        ])
