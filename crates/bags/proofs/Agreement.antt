@@ -152,42 +152,42 @@ last-or-before k j h = eq-or-lt-of-le (le-of-suc-le-suc h)
 
 module _ (events : ℕ → Act) where
   -- The pairs before event k: main alone at the start.
-  unfoldable pub pairs : ℕ → List Pair
-  pairs zero = record { start = 0; join = 1 } ∷ []
-  pairs (suc k) = pairsAfter (events k) (begun events k) (pairs k)
+  unfoldable pub pairsBefore : ℕ → List Pair
+  pairsBefore zero = record { start = 0; join = 1 } ∷ []
+  pairsBefore (suc k) = pairsAfter (events k) (begun events k) (pairsBefore k)
 
   -- They start with the open procedures, the running one on top, so while main is open there is one.
-  starts-are-opens : (k : ℕ) → starts (pairs k) ≡ opens events k
-  unfolding pairs opens
+  starts-are-opens : (k : ℕ) → starts (pairsBefore k) ≡ opens events k
+  unfolding pairsBefore opens
   starts-are-opens zero = refl
   starts-are-opens (suc k) =
-      starts-after (events k) (begun events k) (pairs k) ∙ ap (opensAfter (events k) (begun events k)) (starts-are-opens k)
+      starts-after (events k) (begun events k) (pairsBefore k) ∙ ap (opensAfter (events k) (begun events k)) (starts-are-opens k)
 
-  top-is-maker : (k : ℕ) → top (pairs k) ≡ maker events k
+  top-is-maker : (k : ℕ) → top (pairsBefore k) ≡ maker events k
   unfolding top maker
   top-is-maker k = ap (λ (gs : List ℕ). headD gs 0) (starts-are-opens k)
 
-  some-pair : (k : ℕ) → mainOpen events k ≡ true → pairs k ≢ []
+  some-pair : (k : ℕ) → mainOpen events k ≡ true → pairsBefore k ≢ []
   unfolding mainOpen member
   some-pair k main e =
       let none : opens events k ≡ [] = sym (starts-are-opens k) ∙ ap starts e in
       true≢false (sym main ∙ ap (member 0) none)
 
   -- They are in order, and the bags are their runs.
-  pub in-order : (k : ℕ) → mainOpen events k ≡ true → InOrder (pairs k) (begun events k)
-  unfolding pairs begun InOrder
+  pub in-order : (k : ℕ) → mainOpen events k ≡ true → InOrder (pairsBefore k) (begun events k)
+  unfolding pairsBefore begun InOrder
   in-order zero main = (omega arith, omega arith, refl)
   in-order (suc k) main =
       let before = main-open-before events k (suc k) (omega arith) main in
-      in-order-after (events k) (begun events k) (pairs k) (in-order k before) (some-pair (suc k) main)
+      in-order-after (events k) (begun events k) (pairsBefore k) (in-order k before) (some-pair (suc k) main)
 
-  pub bags-are-runs : (k : ℕ) → mainOpen events k ≡ true → bags events k ≡ asBags (pairs k) (begun events k)
-  unfolding pairs begun bags asBags bagsOfNew run numbersFrom
+  pub bags-are-runs : (k : ℕ) → mainOpen events k ≡ true → bags events k ≡ asBags (pairsBefore k) (begun events k)
+  unfolding pairsBefore begun bags asBags bagsOfNew run numbersFrom
   bags-are-runs zero main = refl
   bags-are-runs (suc k) main =
       let before = main-open-before events k (suc k) (omega arith) main in
       ap (bagsAfter (events k) (begun events k)) (bags-are-runs k before)
-      ∙ sym (bags-after (events k) (begun events k) (pairs k) (in-order k before))
+      ∙ sym (bags-after (events k) (begun events k) (pairsBefore k) (in-order k before))
 
   -- ---- witnesses and P-runs
 
@@ -209,47 +209,47 @@ module _ (events : ℕ → Act) where
       go act k old new (inr before) e q = old before e q
 
   -- After a matching return whoever made the spawn runs again, and the last pair starts with it.
-  top-at-return : (s r : ℕ) → MatchingReturn events s r → top (pairs (suc r)) ≡ maker events s
+  top-at-return : (s r : ℕ) → MatchingReturn events s r → top (pairsBefore (suc r)) ≡ maker events s
   unfolding maker
   top-at-return s r m = top-is-maker (suc r) ∙ ap (λ (gs : List ℕ). headD gs 0) (stack-back events s r m)
 
   -- Right after a witness's return, the maker of the earlier event is in the P-run of the procedure that made the spawn,
   at-the-return : (i j : ℕ) (w : Parallel events i j) → mainOpen events (suc (w .r)) ≡ true
-      → InP (w .G) (maker events i) (pairs (suc (w .r))) (begun events (suc (w .r)))
-  unfolding pairs begun begunAfter
+      → InP (w .G) (maker events i) (pairsBefore (suc (w .r))) (begun events (suc (w .r)))
+  unfolding pairsBefore begun begunAfter
   at-the-return i j w main =
       let s = w .s in
       let r = w .r in
       let returned = w .matching .returns in
       let open-at-r = main-open-before events r (suc r) (omega arith) main in
       let inside = in-body events s r i (w .matching) (w .s<i) (w .i<r) in
-      let ends : top (pairs r) ≤ maker events i = omega (arith, top-is-maker r, w .matching .made-by-started, inside) in
+      let ends : top (pairsBefore r) ≤ maker events i = omega (arith, top-is-maker r, w .matching .made-by-started, inside) in
       let begins = maker-begun-later i r (omega (arith, w .i<r)) open-at-r in
       let next = top-at-return s r (w .matching) ∙ w .made-by-G in
       rw returned
-      (comes-into-P (w .G) (maker events i) (begun events r) (pairs r) (in-order r open-at-r) (rw returned at (some-pair (suc r) main)) ends begins
+      (comes-into-P (w .G) (maker events i) (begun events r) (pairsBefore r) (in-order r open-at-r) (rw returned at (some-pair (suc r) main)) ends begins
       (rw returned at next))
 
   -- and so it is until the procedure syncs or returns.
-  witness-in-P : (j i : ℕ) → mainOpen events j ≡ true → (w : Parallel events i j) → InP (w .G) (maker events i) (pairs j) (begun events j)
-  unfolding pairs begun serves-earlier serves
+  witness-in-P : (j i : ℕ) → mainOpen events j ≡ true → (w : Parallel events i j) → InP (w .G) (maker events i) (pairsBefore j) (begun events j)
+  unfolding pairsBefore begun serves-earlier serves
   witness-in-P zero i main w = absurd (omega (arith, w .r<j))
   witness-in-P (suc j) i main w = go (witness-in-P j i before) (last-or-before (w .r) j (w .r<j))
     where
       before : mainOpen events j ≡ true
       before = main-open-before events j (suc j) (omega arith) main
 
-      go : ((w : Parallel events i j) → InP (w .G) (maker events i) (pairs j) (begun events j)) → (w .r ≡ j) ⊎ (w .r < j)
-          → InP (w .G) (maker events i) (pairs (suc j)) (begun events (suc j))
+      go : ((w : Parallel events i j) → InP (w .G) (maker events i) (pairsBefore j) (begun events j)) → (w .r ≡ j) ⊎ (w .r < j)
+          → InP (w .G) (maker events i) (pairsBefore (suc j)) (begun events (suc j))
       go old (inl now) = rw now at (at-the-return i (suc j) w (rw now main))
       go old (inr earlier) =
-          stays-in-P (events j) (w .G) (maker events i) (begun events j) (pairs j)
+          stays-in-P (events j) (w .G) (maker events i) (begun events j) (pairsBefore j)
           (λ e q. w .no-sync-of-G j earlier (omega arith) e (sym (top-is-maker j) ∙ q))
           (λ e q. w .no-return-of-G j earlier (omega arith) e (sym (top-is-maker j) ∙ q)) (in-order j before) (old (serves-earlier events i (suc j) i j w (w .s<i) (w .i<r) earlier (omega arith)))
 
   -- The body of a procedure that returns: an event in it is parallel with the event after the return.
-  witness-of-body : (G i j : ℕ) → i < j → mainOpen events (suc j) ≡ true → events j ≡ return → G < top (pairs j) → top (pairs j) ≤ maker events i
-      → top (pairs (suc j)) ≡ G → (w : Parallel events i (suc j)) × (w .G ≡ G)
+  witness-of-body : (G i j : ℕ) → i < j → mainOpen events (suc j) ≡ true → events j ≡ return → G < top (pairsBefore j) → top (pairsBefore j) ≤ maker events i
+      → top (pairsBefore (suc j)) ≡ G → (w : Parallel events i (suc j)) × (w .G ≡ G)
   witness-of-body G i j h main returned some body next =
       let before = main-open-before events j (suc j) (omega arith) main in
       let begins = started events j (maker events j) (omega (arith, top-is-maker j)) (maker-begun events j before) in
@@ -277,43 +277,43 @@ module _ (events : ℕ → Act) where
       )
 
   -- Whoever is in G's P-run has a witness made by G.
-  in-P-witness : (j i G : ℕ) → i < j → events i ≢ return → mainOpen events j ≡ true → InP G (maker events i) (pairs j) (begun events j)
+  in-P-witness : (j i G : ℕ) → i < j → events i ≢ return → mainOpen events j ≡ true → InP G (maker events i) (pairsBefore j) (begun events j)
       → (w : Parallel events i j) × (w .G ≡ G)
-  unfolding pairs begun longer serves
+  unfolding pairsBefore begun longer serves
   in-P-witness zero i G h going main o = absurd (omega arith)
   in-P-witness (suc j) i G h going main o = go (last-or-before i j h) (λ m. in-P-witness j i G m going before)
     where
       before : mainOpen events j ≡ true
       before = main-open-before events j (suc j) (omega arith) main
 
-      goes-on : i < j → (InP G (maker events i) (pairs j) (begun events j) → (w : Parallel events i j) × (w .G ≡ G))
-          → (InP G (maker events i) (pairs j) (begun events j) × (events j ≡ sync → top (pairs j) ≢ G) × (events j ≡ return → top (pairs j) ≢ G))
-          ⊎ ((events j ≡ return) × (G < top (pairs j)) × (top (pairs j) ≤ maker events i) × (top (pairs (suc j)) ≡ G))
+      goes-on : i < j → (InP G (maker events i) (pairsBefore j) (begun events j) → (w : Parallel events i j) × (w .G ≡ G))
+          → (InP G (maker events i) (pairsBefore j) (begun events j) × (events j ≡ sync → top (pairsBefore j) ≢ G) × (events j ≡ return → top (pairsBefore j) ≢ G))
+          ⊎ ((events j ≡ return) × (G < top (pairsBefore j)) × (top (pairsBefore j) ≤ maker events i) × (top (pairsBefore (suc j)) ≡ G))
           → (w : Parallel events i (suc j)) × (w .G ≡ G)
       goes-on m old (inl (was, no-sync, no-return)) =
           let (w, by-G) = old was in
           (longer i j w (λ e q. no-sync e (top-is-maker j ∙ q ∙ by-G)) (λ e q. no-return e (top-is-maker j ∙ q ∙ by-G)), by-G)
       goes-on m old (inr (returned, some, body, next)) = witness-of-body G i j m main returned some body next
 
-      go : (i ≡ j) ⊎ (i < j) → (i < j → InP G (maker events i) (pairs j) (begun events j) → (w : Parallel events i j) × (w .G ≡ G))
+      go : (i ≡ j) ⊎ (i < j) → (i < j → InP G (maker events i) (pairsBefore j) (begun events j) → (w : Parallel events i j) × (w .G ≡ G))
           → (w : Parallel events i (suc j)) × (w .G ≡ G)
       go (inl now) old =
           absurd
-          (top-not-in-P (events j) G (begun events j) (pairs j) (rw now at going) (in-order j before) (some-pair j before)
+          (top-not-in-P (events j) G (begun events j) (pairsBefore j) (rw now at going) (in-order j before) (some-pair j before)
           (rw (top-is-maker j) (rw now at o)))
       go (inr earlier) old =
           let begins = maker-begun-later i j (omega arith) before in
-          goes-on earlier (old earlier) (was-or-comes (events j) G (maker events i) (begun events j) (pairs j) (in-order j before) begins o)
+          goes-on earlier (old earlier) (was-or-comes (events j) G (maker events i) (begun events j) (pairsBefore j) (in-order j before) begins o)
 
 -- ---- the bags and the definition
 
 -- A witness, exactly if the maker of the earlier event is in a P-bag.
 pub parallel-in-P-bag : (events : ℕ → Act) (i j : ℕ) → mainOpen events j ≡ true → Parallel events i j → inPBag (maker events i) (bags events j) ≡ true
 parallel-in-P-bag events i j main w =
-    rw (bags-are-runs events j main) (in-P-bag (w .G) (maker events i) (begun events j) (pairs events j) (witness-in-P events j i main w))
+    rw (bags-are-runs events j main) (in-P-bag (w .G) (maker events i) (begun events j) (pairsBefore events j) (witness-in-P events j i main w))
 
 pub in-P-bag-parallel : (events : ℕ → Act) (i j : ℕ) → i < j → events i ≢ return → mainOpen events j ≡ true
     → inPBag (maker events i) (bags events j) ≡ true → Parallel events i j
 in-P-bag-parallel events i j h going main e =
-    let whose = whose-P-bag (maker events i) (begun events j) (pairs events j) (rw (bags-are-runs events j main) at e) in
+    let whose = whose-P-bag (maker events i) (begun events j) (pairsBefore events j) (rw (bags-are-runs events j main) at e) in
     in-P-witness events j i (whose .0) h going main (whose .1) .0

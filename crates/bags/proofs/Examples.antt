@@ -8,12 +8,12 @@ use mathlib.Core.List.{List, [], _∷_, _++_, headD, map}
 use native.Mathlib.Omega.{arith}
 use lib.ListN.{getD}
 use Rattle.bags.specs.declared.ask.Answer.{Answer}
-use Rattle.bags.specs.declared.ask.Answer.the-variants as answer
-use Rattle.bags.specs.declared.ask.Runs.{Runs}
+use Rattle.bags.specs.declared.ask.Answer.the-variants.{InSeries, InParallel, InNoBag}
+use Rattle.bags.specs.declared.ask.Pairs.{Pairs}
 use Rattle.bags.specs.declared.Spawned.the-variants.{Begun, Full}
 use Rattle.bags.specs.Parallel.{Act, spawn, return, sync, other, member, begunAfter, opensAfter, begun, opens, mainOpen, maker, Parallel}
-use Rattle.bags.specs.Bags.{bagsOfNew, synced, handed, bagsAfter, bags, inSBag, inPBag}
-use Rattle.bags.specs.Runs.{numbersFrom, run, asBags, pairsIn, held}
+use Rattle.bags.specs.Bags.{bagsOfNew, synced, handed, bagsAfter, bags, inSBag, inPBag, bagsSayParallel}
+use Rattle.bags.specs.Runs.{numbersFrom, run, asBags, pairsIn, bagsIn}
 use Rattle.bags.specs.Ask.{asked}
 use Rattle.bags.specs.Steps.{Carries, spawned, pushed}
 use Rattle.bags.proofs.Laws.{bags-agree}
@@ -25,7 +25,7 @@ eventsOf acts k = getD acts k other
 -- Of some events, in order: each pair, the earlier event first, that the SP-bags call parallel.
 unfoldable pub parallelWith : (ℕ → Act) → ℕ → List ℕ → List (ℕ × ℕ)
 parallelWith events i [] = []
-parallelWith events i (j ∷ js) = cond (inPBag (maker events i) (bags events j)) ((i, j) ∷ parallelWith events i js) (parallelWith events i js)
+parallelWith events i (j ∷ js) = cond (bagsSayParallel events i j) ((i, j) ∷ parallelWith events i js) (parallelWith events i js)
 
 unfoldable pub parallelPairs : (ℕ → Act) → List ℕ → List (ℕ × ℕ)
 parallelPairs events [] = []
@@ -93,7 +93,7 @@ table =
     } ∷ []
 
 pub all-as-known : map (λ (row : Row). parallelPairs (eventsOf (row .events)) (row .accesses)) table ≡ map (λ (row : Row). row .parallel) table
-unfolding eventsOf parallelWith parallelPairs member begunAfter opensAfter begun opens maker headD bagsOfNew synced handed bagsAfter bags inPBag
+unfolding eventsOf parallelWith parallelPairs member begunAfter opensAfter begun opens maker headD bagsOfNew synced handed bagsAfter bags inPBag bagsSayParallel
 all-as-known = refl
 
 other-no-return : other ≢ return
@@ -117,44 +117,59 @@ spawned-write = record {
 
 -- And on Figure 1, by the theorem that the SP-bags agree with it: the race of events 12 and 17, and the sync between 12 and main's read.
 pub figure1-parallel : Parallel (eventsOf figure1) 12 17
-unfolding eventsOf member begunAfter opensAfter begun opens mainOpen maker headD bagsOfNew synced handed bagsAfter bags inPBag
+unfolding eventsOf member begunAfter opensAfter begun opens mainOpen maker headD bagsOfNew synced handed bagsAfter bags inPBag bagsSayParallel
 figure1-parallel = bags-agree (eventsOf figure1) 12 17 (omega arith) other-no-return refl .1 refl
 
 pub figure1-synced : Parallel (eventsOf figure1) 12 22 → ⊥
-unfolding eventsOf member begunAfter opensAfter begun opens mainOpen maker headD bagsOfNew synced handed bagsAfter bags inPBag
+unfolding eventsOf member begunAfter opensAfter begun opens mainOpen maker headD bagsOfNew synced handed bagsAfter bags inPBag bagsSayParallel
 figure1-synced w = true≢false (sym (bags-agree (eventsOf figure1) 12 22 (omega arith) other-no-return refl .0 w))
 
 -- ---- Pieces -----------------------------------------------------------------------------------------------------------------------------------
 
-abbrev answers : List ℕ → List ℕ → Runs → List ℕ → List Answer
-answers starts joins runs = map (λ (p : ℕ). asked p (held starts joins runs))
+abbrev answers : List ℕ → List ℕ → Pairs → List ℕ → List Answer
+answers starts joins pairs = map (λ (p : ℕ). asked p (bagsIn starts joins pairs))
 
 -- Main has spawned 1, which has spawned 2 and 3; 2 has returned, and 3 runs. Then 3 has returned too and 1 has synced.
 pub pieces-as-known :
-    (held (0 ∷ 1 ∷ 3 ∷ []) (1 ∷ 2 ∷ 4 ∷ []) (record { pairs = 3; begun = 4 })
+    (bagsIn (0 ∷ 1 ∷ 3 ∷ []) (1 ∷ 2 ∷ 4 ∷ []) (record { count = 3; begun = 4 })
     ≡ record { owner = 3; S = 3 ∷ []; P = [] } ∷ record { owner = 1; S = 1 ∷ []; P = 2 ∷ [] } ∷ record { owner = 0; S = 0 ∷ []; P = [] } ∷ [])
-    × (answers (0 ∷ 1 ∷ 3 ∷ []) (1 ∷ 2 ∷ 4 ∷ []) (record { pairs = 3; begun = 4 }) (0 ∷ 1 ∷ 2 ∷ 3 ∷ 4 ∷ [])
-    ≡ answer.Series ∷ answer.Series ∷ answer.Parallel ∷ answer.Series ∷ answer.NoBag ∷ [])
-    × (answers (0 ∷ 1 ∷ 3 ∷ []) (1 ∷ 4 ∷ 4 ∷ []) (record { pairs = 2; begun = 4 }) (0 ∷ 1 ∷ 2 ∷ 3 ∷ 4 ∷ [])
-    ≡ answer.Series ∷ answer.Series ∷ answer.Series ∷ answer.Series ∷ answer.NoBag ∷ [])
+    × (answers (0 ∷ 1 ∷ 3 ∷ []) (1 ∷ 2 ∷ 4 ∷ []) (record { count = 3; begun = 4 }) (0 ∷ 1 ∷ 2 ∷ 3 ∷ 4 ∷ [])
+    ≡ InSeries ∷ InSeries ∷ InParallel ∷ InSeries ∷ InNoBag ∷ [])
+    × (answers (0 ∷ 1 ∷ 3 ∷ []) (1 ∷ 4 ∷ 4 ∷ []) (record { count = 2; begun = 4 }) (0 ∷ 1 ∷ 2 ∷ 3 ∷ 4 ∷ [])
+    ≡ InSeries ∷ InSeries ∷ InSeries ∷ InSeries ∷ InNoBag ∷ [])
     -- Five procedures, each spawned by the one before, all open.
-    × (answers (0 ∷ 1 ∷ 2 ∷ 3 ∷ 4 ∷ []) (1 ∷ 2 ∷ 3 ∷ 4 ∷ 5 ∷ []) (record { pairs = 5; begun = 5 }) (0 ∷ 1 ∷ 2 ∷ 3 ∷ 4 ∷ 5 ∷ [])
-    ≡ answer.Series ∷ answer.Series ∷ answer.Series ∷ answer.Series ∷ answer.Series ∷ answer.NoBag ∷ [])
+    × (answers (0 ∷ 1 ∷ 2 ∷ 3 ∷ 4 ∷ []) (1 ∷ 2 ∷ 3 ∷ 4 ∷ 5 ∷ []) (record { count = 5; begun = 5 }) (0 ∷ 1 ∷ 2 ∷ 3 ∷ 4 ∷ 5 ∷ [])
+    ≡ InSeries ∷ InSeries ∷ InSeries ∷ InSeries ∷ InSeries ∷ InNoBag ∷ [])
     -- The last procedure that may begin, and the first that may not.
-    × (spawned (record { pairs = 2; begun = 4095 }) ≡ Begun (record { pairs = 3; begun = 4096 }))
-    × (spawned (record { pairs = 2; begun = 4096 }) ≡ Full)
-    × (pushed (record { pairs = 2; begun = 4095 }) 7 (0 ∷ 1 ∷ 3 ∷ []) ≡ 0 ∷ 1 ∷ 7 ∷ [])
-    × (pushed (record { pairs = 2; begun = 4096 }) 7 (0 ∷ 1 ∷ 3 ∷ []) ≡ 0 ∷ 1 ∷ 3 ∷ [])
-unfolding member inSBag inPBag numbersFrom run asBags pairsIn held asked spawned pushed
+    × (spawned (record { count = 2; begun = 4095 }) ≡ Begun (record { count = 3; begun = 4096 }))
+    × (spawned (record { count = 2; begun = 4096 }) ≡ Full)
+    × (pushed (record { count = 2; begun = 4095 }) 7 (0 ∷ 1 ∷ 3 ∷ []) ≡ 0 ∷ 1 ∷ 7 ∷ [])
+    × (pushed (record { count = 2; begun = 4096 }) 7 (0 ∷ 1 ∷ 3 ∷ []) ≡ 0 ∷ 1 ∷ 3 ∷ [])
+unfolding member inSBag inPBag numbersFrom run asBags pairsIn bagsIn asked spawned pushed
 pieces-as-known = (refl, refl, refl, refl, refl, refl, refl, refl)
 
--- A sync that also clears the children of the caller's parents breaks the contract: here 1 has returned to main, 2 runs and syncs, and 1 would no
--- longer be in main's P-bag.
-pub parents-cleared : Carries sync (0 ∷ 2 ∷ []) (1 ∷ 3 ∷ []) (record { pairs = 2; begun = 3 }) (0 ∷ 2 ∷ []) (2 ∷ 3 ∷ []) (record { pairs = 2; begun = 3 }) → ⊥
-unfolding member synced bagsAfter inPBag numbersFrom run asBags pairsIn held
+-- ---- Pieces that break a contract -------------------------------------------------------------------------------------------------------------
+
+-- 1 has returned to main, and 2 runs and syncs. A sync that also clears the children of the caller's parents, or main's instead of the caller's,
+-- takes 1 out of main's P-bag.
+abbrev two-open : Pairs
+two-open = record { count = 2; begun = 3 }
+
+pub parents-cleared : Carries sync (0 ∷ 2 ∷ []) (1 ∷ 3 ∷ []) two-open (0 ∷ 2 ∷ []) (2 ∷ 3 ∷ []) two-open → ⊥
+unfolding member synced bagsAfter inPBag numbersFrom run asBags pairsIn bagsIn
 parents-cleared c = true≢false (sym (ap (inPBag 1) (c .bags)))
 
--- So does a return that carries no implied sync: 1 has spawned 2, which has returned to it, and returns itself, and 2 would be in no bag.
-pub no-implied-sync : Carries return (0 ∷ 1 ∷ []) (1 ∷ 2 ∷ []) (record { pairs = 2; begun = 3 }) (0 ∷ 1 ∷ []) (1 ∷ 2 ∷ []) (record { pairs = 1; begun = 2 }) → ⊥
-unfolding member synced handed bagsAfter inPBag numbersFrom run asBags pairsIn held
+pub mains-cleared : Carries sync (0 ∷ 2 ∷ []) (1 ∷ 3 ∷ []) two-open (0 ∷ 2 ∷ []) (3 ∷ 3 ∷ []) two-open → ⊥
+unfolding member synced bagsAfter inPBag numbersFrom run asBags pairsIn bagsIn
+mains-cleared c = true≢false (sym (ap (inPBag 1) (c .bags)))
+
+-- 1 has spawned 2, which has returned to it, and returns itself. A return that carries no implied sync leaves 2 in no bag.
+pub no-implied-sync : Carries return (0 ∷ 1 ∷ []) (1 ∷ 2 ∷ []) two-open (0 ∷ 1 ∷ []) (1 ∷ 2 ∷ []) (record { count = 1; begun = 2 }) → ⊥
+unfolding member synced handed bagsAfter inPBag numbersFrom run asBags pairsIn bagsIn
 no-implied-sync c = true≢false (sym (ap (inPBag 2) (c .bags)))
+
+-- Main spawns 1. A join that is not past its start puts 1 into its own P-bag.
+pub new-in-own-P-bag :
+    Carries spawn (0 ∷ 9 ∷ []) (1 ∷ 9 ∷ []) (record { count = 1; begun = 1 }) (0 ∷ 1 ∷ []) (1 ∷ 1 ∷ []) (record { count = 2; begun = 2 }) → ⊥
+unfolding member bagsOfNew bagsAfter inPBag numbersFrom run asBags pairsIn bagsIn
+new-in-own-P-bag c = true≢false (ap (inPBag 1) (c .bags))

@@ -6,21 +6,22 @@ use native.Mathlib.Nat.{le-refl}
 use native.Mathlib.Omega.{arith}
 use Rattle.bags.specs.Parallel.{Act, opensAfter, begun, opens, maker, Parallel}
 use Rattle.bags.specs.Bags.{bagsAfter, bags}
+use Rattle.bags.specs.Theorems.{LaterEvents}
 
 -- Two sequences with the same events before j.
-pub record SameBefore (j : ℕ) (events events′ : ℕ → Act) : Type 0 where
-  pub same : (k : ℕ) → k < j → events k ≡ events′ k
+abbrev SameBefore : ℕ → (ℕ → Act) → (ℕ → Act) → Type 0
+SameBefore j events events′ = (k : ℕ) → k < j → events k ≡ events′ k
 
 -- They have the same events before any earlier number.
 same-earlier : (i j : ℕ) (events events′ : ℕ → Act) → i ≤ j → SameBefore j events events′ → SameBefore i events events′
-same-earlier i j events events′ h w = record { same = λ k l. w .same k (omega arith) }
+same-earlier i j events events′ h w k l = w k (omega arith)
 
 -- The number of procedures begun is the same,
-pub later-begun : (j : ℕ) (events events′ : ℕ → Act) → SameBefore j events events′ → begun events j ≡ begun events′ j
+later-begun : (j : ℕ) (events events′ : ℕ → Act) → SameBefore j events events′ → begun events j ≡ begun events′ j
 unfolding begun
 later-begun zero events events′ w = refl
 later-begun (suc j) events events′ w =
-    rw (w .same j (le-refl (suc j)), later-begun j events events′ (same-earlier j (suc j) events events′ (omega arith) w))
+    rw (w j (le-refl (suc j)), later-begun j events events′ (same-earlier j (suc j) events events′ (omega arith) w))
 
 -- so is whatever each event makes anew of itself and that number,
 module _ {A : Type 0} (state : (ℕ → Act) → ℕ → A) (after : Act → ℕ → A → A) (first : (events events′ : ℕ → Act) → state events 0 ≡ state events′ 0)
@@ -30,15 +31,15 @@ module _ {A : Type 0} (state : (ℕ → Act) → ℕ → A) (after : Act → ℕ
   later-state (suc j) events events′ w =
       let before = same-earlier j (suc j) events events′ (omega arith) w in
       next events j
-      ∙ rw (w .same j (le-refl (suc j)), later-begun j events events′ before, later-state j events events′ before) (sym (next events′ j))
+      ∙ rw (w j (le-refl (suc j)), later-begun j events events′ before, later-state j events events′ before) (sym (next events′ j))
 
 -- the open procedures,
-pub later-opens : (j : ℕ) (events events′ : ℕ → Act) → SameBefore j events events′ → opens events j ≡ opens events′ j
+later-opens : (j : ℕ) (events events′ : ℕ → Act) → SameBefore j events events′ → opens events j ≡ opens events′ j
 unfolding opens
 later-opens = later-state opens opensAfter (λ events events′. refl) (λ events k. refl)
 
 -- the bags,
-pub later-bags : (j : ℕ) (events events′ : ℕ → Act) → SameBefore j events events′ → bags events j ≡ bags events′ j
+later-bags : (j : ℕ) (events events′ : ℕ → Act) → SameBefore j events events′ → bags events j ≡ bags events′ j
 unfolding bags
 later-bags = later-state bags bagsAfter (λ events events′. refl) (λ events k. refl)
 
@@ -47,8 +48,8 @@ later-maker : (k j : ℕ) (events events′ : ℕ → Act) → k ≤ j → SameB
 unfolding maker
 later-maker k j events events′ h w = ap (λ (gs : List ℕ). headD gs 0) (later-opens k events events′ (same-earlier k j events events′ h w))
 
--- and who is parallel with j.
-pub later-parallel : (i j : ℕ) (events events′ : ℕ → Act) → SameBefore j events events′ → Parallel events i j → Parallel events′ i j
+-- and who is parallel with j;
+later-parallel : (i j : ℕ) (events events′ : ℕ → Act) → SameBefore j events events′ → Parallel events i j → Parallel events′ i j
 later-parallel i j events events′ w p =
     record {
       s = p .s;
@@ -57,8 +58,8 @@ later-parallel i j events events′ w p =
       r = p .r;
       matching =
           record {
-            spawns = sym (w .same (p .s) (omega arith)) ∙ p .matching .spawns;
-            returns = sym (w .same (p .r) (omega arith)) ∙ p .matching .returns;
+            spawns = sym (w (p .s) (omega arith)) ∙ p .matching .spawns;
+            returns = sym (w (p .r) (omega arith)) ∙ p .matching .returns;
             made-by-started =
                 sym (makes (p .r) (omega arith)) ∙ p .matching .made-by-started
                 ∙ later-begun (p .s) events events′ (same-earlier (p .s) j events events′ (omega arith) w);
@@ -66,9 +67,18 @@ later-parallel i j events events′ w p =
       s<i = p .s<i;
       i<r = p .i<r;
       r<j = p .r<j;
-      no-sync-of-G = λ k h l e q. p .no-sync-of-G k h l (w .same k l ∙ e) (makes k (omega arith) ∙ q);
-      no-return-of-G = λ k h l e q. p .no-return-of-G k h l (w .same k l ∙ e) (makes k (omega arith) ∙ q);
+      no-sync-of-G = λ k h l e q. p .no-sync-of-G k h l (w k l ∙ e) (makes k (omega arith) ∙ q);
+      no-return-of-G = λ k h l e q. p .no-return-of-G k h l (w k l ∙ e) (makes k (omega arith) ∙ q);
     }
   where
     makes : (k : ℕ) → k ≤ j → maker events k ≡ maker events′ k
     makes k h = later-maker k j events events′ h w
+
+pub later-events : LaterEvents
+later-events j events events′ w = record {
+  same-begun = later-begun j events events′ w;
+  same-opens = later-opens j events events′ w;
+  same-maker = later-maker j j events events′ (le-refl j) w;
+  same-bags = later-bags j events events′ w;
+  same-parallel = λ i. (later-parallel i j events events′ w, later-parallel i j events′ events (λ k h. sym (w k h)));
+}

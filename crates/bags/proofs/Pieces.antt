@@ -10,15 +10,18 @@ use native.Mathlib.Decide.{decLt}
 use lib.Dec.{eqb, ltb, leb}
 use lib.ListN.{length, getD, set, length-set}
 use borrow.Author.Tests.{lt-ltb, le-ltb, lt-leb, le-leb}
-use lib.Seq.{getD-set-same, getD-set-other}
-use Rattle.bags.specs.declared.ask.Runs.{Runs}
-use Rattle.bags.specs.declared.ask.Answer.the-variants.{Series, Parallel, NoBag}
+use lib.Seq.{getD-set-same, getD-set-other, drop-set-lt}
+use Rattle.bags.specs.declared.ask.Pairs.{Pairs}
+use Rattle.bags.specs.declared.ask.Answer.{Answer}
+use Rattle.bags.specs.declared.ask.Answer.the-variants.{InSeries, InParallel, InNoBag}
+use Rattle.bags.specs.declared.Spawned.{Spawned}
 use Rattle.bags.specs.declared.Spawned.the-variants.{Begun, Full}
 use Rattle.bags.specs.Parallel.{Act, member, spawn, return, sync, begunAfter}
-use Rattle.bags.specs.Bags.{Bags, bagsOfNew, inPBag}
-use Rattle.bags.specs.Runs.{Pair, numbersFrom, run, asBags, InOrder, pairsIn, room, held, Room}
-use Rattle.bags.specs.Ask.{asked, inSomeBag, Found}
-use Rattle.bags.specs.Steps.{runner, Begins, Carries, mostBegun, spawned, pushed}
+use Rattle.bags.specs.Bags.{Bags, bagsOfNew, inPBag, inSomeBag}
+use Rattle.bags.specs.Runs.{Pair, numbersFrom, run, asBags, InOrder, pairsIn, pieceSize, bagsIn, Room}
+use Rattle.bags.specs.Ask.{asked, saysParallel, refusalOf, Found}
+use Rattle.bags.specs.Steps.{runner, RestKept, Begins, Carries, mostBegun, spawned, pushed, AfterSpawn}
+use Rattle.bags.specs.Steps as steps
 use Rattle.bags.proofs.Runs.{joined, pairsAfter, bags-after, in-order-after, between-under, member-run, in-none-above, in-S-or-P}
 
 -- ---- Stores -----------------------------------------------------------------------------------------------------------------------------------
@@ -75,23 +78,36 @@ unfolding pairsIn
 some-pair starts joins zero h e = omega arith
 some-pair starts joins (suc d) h e = let z : _≡_ {A = ℕ} 0 1 = cc in omega arith
 
+-- A piece of the same length, with the same rest: so it is where nothing or a number in the used part was stored.
+record Kept (piece piece′ : List ℕ) : Type 0 where
+  same-length : length piece′ ≡ length piece
+  same-rest : RestKept piece piece′
+
+untouched : (piece : List ℕ) → Kept piece piece
+untouched piece = record { same-length = refl; same-rest = refl }
+
+stored : (piece : List ℕ) (d x : ℕ) → d < pieceSize → Kept piece (set piece d x)
+stored piece d x h = record { same-length = length-set piece d x; same-rest = drop-set-lt pieceSize piece d x h }
+
 -- Where the pairs go forward as an event says, so do the bags.
-carried : (act : Act) (starts joins starts′ joins′ : List ℕ) (runs runs′ : Runs) → Room starts joins runs
-    → length starts′ ≡ length starts → length joins′ ≡ length joins → runs′ .pairs ≤ room → runs′ .begun ≡ begunAfter act (runs .begun)
-    → pairsIn starts′ joins′ (runs′ .pairs) ≡ pairsAfter act (runs .begun) (pairsIn starts joins (runs .pairs))
-    → Carries act starts joins runs starts′ joins′ runs′
-unfolding held
-carried act starts joins starts′ joins′ runs runs′ h a b few n e = record {
+carried : (act : Act) (starts joins starts′ joins′ : List ℕ) (pairs pairs′ : Pairs) → Room starts joins pairs
+    → Kept starts starts′ → Kept joins joins′ → pairs′ .count ≤ pieceSize → pairs′ .begun ≡ begunAfter act (pairs .begun)
+    → pairsIn starts′ joins′ (pairs′ .count) ≡ pairsAfter act (pairs .begun) (pairsIn starts joins (pairs .count))
+    → Carries act starts joins pairs starts′ joins′ pairs′
+unfolding bagsIn
+carried act starts joins starts′ joins′ pairs pairs′ h kept-starts kept-joins few n e = record {
   begun-after = n;
-  bags = ap₂ asBags e n ∙ bags-after act (runs .begun) (pairsIn starts joins (runs .pairs)) (h .in-order);
+  bags = ap₂ asBags e n ∙ bags-after act (pairs .begun) (pairsIn starts joins (pairs .count)) (h .in-order);
   room-after = λ some. record {
-    starts-fit = omega (arith, h .starts-fit);
-    joins-fit = omega (arith, h .joins-fit);
+    starts-fit = omega (arith, h .starts-fit, kept-starts .same-length);
+    joins-fit = omega (arith, h .joins-fit, kept-joins .same-length);
     pairs-fit = few;
     main-open = some;
-    in-order = rw e (rw n (in-order-after act (runs .begun) (pairsIn starts joins (runs .pairs)) (h .in-order)
-        (λ none. some-pair starts′ joins′ (runs′ .pairs) some (e ∙ none))));
+    in-order = rw e (rw n (in-order-after act (pairs .begun) (pairsIn starts joins (pairs .count)) (h .in-order)
+        (λ none. some-pair starts′ joins′ (pairs′ .count) some (e ∙ none))));
   };
+  starts-rest = kept-starts .same-rest;
+  joins-rest = kept-joins .same-rest;
 }
 
 -- Each of the first d pairs starts below the next one, so there are no more pairs than procedures begun.
@@ -100,78 +116,85 @@ unfolding InOrder pairsIn
 pairs-begun starts joins zero n h = omega arith
 pairs-begun starts joins (suc d) n h = omega (arith, pairs-begun starts joins d (getD starts d 0) (h .2))
 
-pub begins : (starts joins : List ℕ) → room ≤ length starts → room ≤ length joins
-    → Begins (set starts 0 0) (set joins 0 1) (record { pairs = 1; begun = 1 })
-unfolding held pairsIn asBags run numbersFrom bagsOfNew InOrder
+pub begins : (starts joins : List ℕ) → pieceSize ≤ length starts → pieceSize ≤ length joins
+    → Begins starts joins (set starts 0 0) (set joins 0 1) (record { count = 1; begun = 1 })
+unfolding bagsIn pairsIn asBags run numbersFrom bagsOfNew InOrder
 begins starts joins h l =
     let first : getD (set starts 0 0) 0 0 ≡ 0 = getD-set-same starts 0 0 0 (omega arith) in
     let second : getD (set joins 0 1) 0 0 ≡ 1 = getD-set-same joins 0 1 0 (omega arith) in
+    let kept-starts : Kept starts (set starts 0 0) = stored starts 0 0 (omega arith) in
+    let kept-joins : Kept joins (set joins 0 1) = stored joins 0 1 (omega arith) in
     record {
       begun-one = refl;
       bags = rw first (rw second refl);
       room-after = record {
-        starts-fit = omega (arith, length-set starts 0 0);
-        joins-fit = omega (arith, length-set joins 0 1);
+        starts-fit = omega (arith, kept-starts .same-length);
+        joins-fit = omega (arith, kept-joins .same-length);
         pairs-fit = omega arith;
         main-open = omega arith;
         in-order = (omega arith, omega arith, first);
       };
+      starts-rest = kept-starts .same-rest;
+      joins-rest = kept-joins .same-rest;
     }
 
 -- A spawn that is not refused finds room for its pair.
-pub record Free (starts joins : List ℕ) (runs : Runs) : Type 0 where
-  pub small : runs .pairs < room
-  pub in-starts : runs .pairs < length starts
-  pub in-joins : runs .pairs < length joins
+pub record Free (starts joins : List ℕ) (pairs : Pairs) : Type 0 where
+  pub small : pairs .count < pieceSize
+  pub in-starts : pairs .count < length starts
+  pub in-joins : pairs .count < length joins
 
-pub room-left : (starts joins : List ℕ) (runs : Runs) → Room starts joins runs → runs .begun < mostBegun → Free starts joins runs
-room-left starts joins runs h few =
-    let few-pairs : runs .pairs ≤ runs .begun = pairs-begun starts joins (runs .pairs) (runs .begun) (h .in-order) in
+pub room-left : (starts joins : List ℕ) (pairs : Pairs) → Room starts joins pairs → pairs .begun < mostBegun → Free starts joins pairs
+room-left starts joins pairs h few =
+    let few-pairs : pairs .count ≤ pairs .begun = pairs-begun starts joins (pairs .count) (pairs .begun) (h .in-order) in
     record { small = omega arith; in-starts = omega (arith, h .starts-fit); in-joins = omega (arith, h .joins-fit) }
 
-spawns : (starts joins : List ℕ) (runs : Runs) → Room starts joins runs → runs .begun < mostBegun
-    → Carries spawn starts joins runs (set starts (runs .pairs) (runs .begun)) (set joins (runs .pairs) (suc (runs .begun)))
-    (record { pairs = suc (runs .pairs); begun = suc (runs .begun) })
+spawns : (starts joins : List ℕ) (pairs : Pairs) → Room starts joins pairs → pairs .begun < mostBegun
+    → Carries spawn starts joins pairs (set starts (pairs .count) (pairs .begun)) (set joins (pairs .count) (suc (pairs .begun)))
+    (record { count = suc (pairs .count); begun = suc (pairs .begun) })
 unfolding begunAfter
-spawns starts joins runs h few =
-    let left : Free starts joins runs = room-left starts joins runs h few in
-    carried spawn starts joins (set starts (runs .pairs) (runs .begun)) (set joins (runs .pairs) (suc (runs .begun))) runs
-    (record { pairs = suc (runs .pairs); begun = suc (runs .begun) }) h
-    (length-set starts (runs .pairs) (runs .begun)) (length-set joins (runs .pairs) (suc (runs .begun))) (left .small) refl
-    (pairs-spawned starts joins (runs .pairs) (runs .begun) (left .in-starts) (left .in-joins))
+spawns starts joins pairs h few =
+    let left : Free starts joins pairs = room-left starts joins pairs h few in
+    carried spawn starts joins (set starts (pairs .count) (pairs .begun)) (set joins (pairs .count) (suc (pairs .begun))) pairs
+    (record { count = suc (pairs .count); begun = suc (pairs .begun) }) h (stored starts (pairs .count) (pairs .begun) (left .small))
+    (stored joins (pairs .count) (suc (pairs .begun)) (left .small)) (left .small) refl
+    (pairs-spawned starts joins (pairs .count) (pairs .begun) (left .in-starts) (left .in-joins))
 
--- What `spawn` promises, where it refuses and where it does not.
-pub refused : (starts joins : List ℕ) (runs : Runs) → mostBegun ≤ runs .begun
-    → (Full ≡ spawned runs) × ((starts ≡ pushed runs (runs .begun) starts) × ((joins ≡ pushed runs (runs .begun + 1) joins) × Unit {0}))
+-- What `spawn` promises of an answer and of the pieces that it leaves.
+abbrev pub Spawns : List ℕ → List ℕ → Pairs → List ℕ → List ℕ → Spawned → Type 0
+Spawns starts joins pairs starts′ joins′ answer =
+    (answer ≡ spawned pairs)
+    × ((steps.refusalOf answer ≡ cond (ltb (pairs .begun) mostBegun) 0 11)
+    × ((starts′ ≡ pushed pairs (pairs .begun) starts)
+    × ((joins′ ≡ pushed pairs (pairs .begun + 1) joins) × AfterSpawn starts joins pairs starts′ joins′ answer)))
+
+-- The two answers.
+pub refused : (starts joins : List ℕ) (pairs : Pairs) → mostBegun ≤ pairs .begun → Spawns starts joins pairs starts joins Full
 unfolding spawned pushed
-refused starts joins runs many = rw (le-ltb _ _ many) (refl, (refl, (refl, tt)))
+refused starts joins pairs many = rw (le-ltb _ _ many) (refl, (refl, (refl, (refl, (many, refl, refl)))))
 
-pub begun : (starts joins : List ℕ) (runs : Runs) → Room starts joins runs → runs .begun < mostBegun
-    → let runs′ : Runs = record { pairs = runs .pairs + 1; begun = runs .begun + 1 } in
-    let starts′ : List ℕ = set starts (runs .pairs) (runs .begun) in
-    let joins′ : List ℕ = set joins (runs .pairs) (runs .begun + 1) in
-    (Begun runs′ ≡ spawned runs)
-    × ((starts′ ≡ pushed runs (runs .begun) starts)
-    × ((joins′ ≡ pushed runs (runs .begun + 1) joins) × Carries spawn starts joins runs starts′ joins′ runs′))
+pub begun : (starts joins : List ℕ) (pairs : Pairs) → Room starts joins pairs → pairs .begun < mostBegun
+    → Spawns starts joins pairs (set starts (pairs .count) (pairs .begun)) (set joins (pairs .count) (pairs .begun + 1))
+    (Begun (record { count = pairs .count + 1; begun = pairs .begun + 1 }))
 unfolding spawned pushed
-begun starts joins runs h few =
-    rw (lt-ltb _ _ few) (refl, (refl, (refl, rw (one-more (runs .pairs), one-more (runs .begun)) (spawns starts joins runs h few))))
+begun starts joins pairs h few =
+    rw (lt-ltb _ _ few)
+    (refl, (refl, (refl, (refl, (few, rw (one-more (pairs .count), one-more (pairs .begun)) (spawns starts joins pairs h few))))))
 
-pub syncs : (starts joins : List ℕ) (runs : Runs) → Room starts joins runs
-    → Carries sync starts joins runs starts (set joins (runs .pairs - 1) (runs .begun)) runs
+pub syncs : (starts joins : List ℕ) (pairs : Pairs) → Room starts joins pairs
+    → Carries sync starts joins pairs starts (set joins (pairs .count - 1) (pairs .begun)) pairs
 unfolding begunAfter
-syncs starts joins runs h =
-    carried sync starts joins starts (set joins (runs .pairs - 1) (runs .begun)) runs runs h refl
-    (length-set joins (runs .pairs - 1) (runs .begun)) (h .pairs-fit) refl
-    (pairs-synced starts joins (runs .pairs) (runs .begun) (h .main-open)
-    (omega (arith, h .joins-fit, h .pairs-fit)))
+syncs starts joins pairs h =
+    carried sync starts joins starts (set joins (pairs .count - 1) (pairs .begun)) pairs pairs h (untouched starts)
+    (stored joins (pairs .count - 1) (pairs .begun) (omega (arith, h .main-open, h .pairs-fit))) (h .pairs-fit) refl
+    (pairs-synced starts joins (pairs .count) (pairs .begun) (h .main-open) (omega (arith, h .joins-fit, h .pairs-fit)))
 
-pub returned : (starts joins : List ℕ) (runs : Runs) → Room starts joins runs
-    → Carries return starts joins runs starts joins (record { pairs = runs .pairs - 1; begun = runs .begun })
+pub returned : (starts joins : List ℕ) (pairs : Pairs) → Room starts joins pairs
+    → Carries return starts joins pairs starts joins (record { count = pairs .count - 1; begun = pairs .begun })
 unfolding begunAfter
-returned starts joins runs h =
-    carried return starts joins starts joins runs (record { pairs = runs .pairs - 1; begun = runs .begun }) h refl refl (omega (arith, h .pairs-fit)) refl
-    (pairs-returned starts joins (runs .pairs) (runs .begun) (h .main-open))
+returned starts joins pairs h =
+    carried return starts joins starts joins pairs (record { count = pairs .count - 1; begun = pairs .begun }) h (untouched starts) (untouched joins)
+    (omega (arith, h .pairs-fit)) refl (pairs-returned starts joins (pairs .count) (pairs .begun) (h .main-open))
 
 -- The top pair is the running procedure's.
 runner-on-top : (starts joins : List ℕ) (d n : ℕ) → 0 < d → runner (asBags (pairsIn starts joins d) n) ≡ getD starts (d - 1) 0
@@ -179,9 +202,9 @@ unfolding runner asBags pairsIn headD
 runner-on-top starts joins zero n some = absurd (omega arith)
 runner-on-top starts joins (suc d) n some = rw (one-less d) refl
 
-pub runner-held : (starts joins : List ℕ) (runs : Runs) → 0 < runs .pairs → runner (held starts joins runs) ≡ getD starts (runs .pairs - 1) 0
-unfolding held
-runner-held starts joins runs some = runner-on-top starts joins (runs .pairs) (runs .begun) some
+pub runner-held : (starts joins : List ℕ) (pairs : Pairs) → 0 < pairs .count → runner (bagsIn starts joins pairs) ≡ getD starts (pairs .count - 1) 0
+unfolding bagsIn
+runner-held starts joins pairs some = runner-on-top starts joins (pairs .count) (pairs .begun) some
 
 -- ---- The question -----------------------------------------------------------------------------------------------------------------------------
 
@@ -247,58 +270,72 @@ main-owns starts joins (suc (suc d)) n h =
     rw (main-owns starts joins (suc d) (getD starts (suc d) 0) (λ some. h (omega arith) .2))
     (rw (lt-ltb 0 (suc d) (omega arith), lt-ltb 0 (suc (suc d)) (omega arith)) (or-true (eqb 0 (getD starts (suc d) 0))))
 
+-- There are as many owners as pairs.
+pub owners-counted : (starts joins : List ℕ) (d n : ℕ) → length (map (λ (b : Bags). b .owner) (asBags (pairsIn starts joins d) n)) ≡ d
+unfolding asBags pairsIn
+owners-counted starts joins zero n = refl
+owners-counted starts joins (suc d) n = ap suc (owners-counted starts joins d (getD starts d 0))
+
 -- What the search asks for.
-pub searchable : (starts joins : List ℕ) (runs : Runs) (p : ℕ) → Room starts joins runs
-    → (runs .pairs - 1 < length starts) × ((runs .pairs - 1 < room) × (getD starts 0 0 ≤ p))
-searchable starts joins runs p h =
-    let lowest : getD starts 0 0 ≡ 0 = lowest-start starts joins (runs .pairs) (runs .begun) (h .in-order) (h .main-open) in
+pub searchable : (starts joins : List ℕ) (pairs : Pairs) (p : ℕ) → Room starts joins pairs
+    → (pairs .count - 1 < length starts) × ((pairs .count - 1 < pieceSize) × (getD starts 0 0 ≤ p))
+searchable starts joins pairs p h =
+    let lowest : getD starts 0 0 ≡ 0 = lowest-start starts joins (pairs .count) (pairs .begun) (h .in-order) (h .main-open) in
     (omega (arith, h .main-open, h .pairs-fit, h .starts-fit), (omega (arith, h .main-open, h .pairs-fit), omega arith))
 
 -- The place that it finds lies in the joins.
-pub in-joins : (starts joins : List ℕ) (runs : Runs) (p at : ℕ) → Room starts joins runs → Found starts (runs .pairs - 1) p at
-    → (at < room) × (at < length joins)
-in-joins starts joins runs p at h f =
-    let inside : runs .pairs - 1 < room = searchable starts joins runs p h .1 .0 in
+pub in-joins : (starts joins : List ℕ) (pairs : Pairs) (p at : ℕ) → Room starts joins pairs → Found starts (pairs .count - 1) p at
+    → (at < pieceSize) × (at < length joins)
+in-joins starts joins pairs p at h f =
+    let inside : pairs .count - 1 < pieceSize = searchable starts joins pairs p h .1 .0 in
     (omega (arith, f .within), omega (arith, f .within, h .joins-fit))
 
+-- What `ask` promises of an answer.
+abbrev pub Answers : List ℕ → List ℕ → Pairs → ℕ → Answer → Type 0
+Answers starts joins pairs p answer =
+    let bs = bagsIn starts joins pairs in
+    (answer ≡ asked p bs) × ((saysParallel answer ≡ inPBag p bs) × (refusalOf answer ≡ cond (inSomeBag p bs) 0 12))
+
 -- The three answers.
-pub asked-above : (starts joins : List ℕ) (runs : Runs) (p : ℕ) → Room starts joins runs → runs .begun ≤ p → NoBag ≡ asked p (held starts joins runs)
-unfolding held asked
-asked-above starts joins runs p h above =
-    let none = in-none-above p (runs .begun) (pairsIn starts joins (runs .pairs)) (h .in-order) above in
-    rw (ap (λ (u : ℕ × Bool × Bool). u .2) none, ap (λ (u : ℕ × Bool × Bool). u .1) none) refl
+pub above-in-no-bag : (starts joins : List ℕ) (pairs : Pairs) (p : ℕ) → Room starts joins pairs → pairs .begun ≤ p → Answers starts joins pairs p InNoBag
+unfolding bagsIn asked inSomeBag
+above-in-no-bag starts joins pairs p h above =
+    let none = in-none-above p (pairs .begun) (pairsIn starts joins (pairs .count)) (h .in-order) above in
+    rw (ap (λ (u : ℕ × Bool × Bool). u .2) none, ap (λ (u : ℕ × Bool × Bool). u .1) none) (refl, (refl, refl))
 
-asked-below : (starts joins : List ℕ) (runs : Runs) (p at : ℕ) → Room starts joins runs → p < runs .begun → Found starts (runs .pairs - 1) p at
-    → asked p (held starts joins runs) ≡ cond (leb (getD joins at 0) p) Parallel Series
-unfolding held asked
-asked-below starts joins runs p at h below f =
-    let yes-or-no = in-P-at starts joins (runs .pairs) (runs .begun) at p (h .in-order) (omega (arith, f .within, h .main-open)) (f .starts-below) below
-    (λ l. f .next-above (omega arith)) in
-    rw (in-S-or-P p (runs .begun) (pairsIn starts joins (runs .pairs)) (h .in-order) below, yes-or-no) (either (leb (getD joins at 0) p))
+found-answer : (starts joins : List ℕ) (pairs : Pairs) (p at : ℕ) → Room starts joins pairs → p < pairs .begun → Found starts (pairs .count - 1) p at
+    → Answers starts joins pairs p (cond (leb (getD joins at 0) p) InParallel InSeries)
+unfolding bagsIn asked inSomeBag
+found-answer starts joins pairs p at h below f =
+    let yes-or-no = in-P-at starts joins (pairs .count) (pairs .begun) at p (h .in-order) (omega (arith, f .within, h .main-open)) (f .starts-below)
+    below (λ l. f .next-above (omega arith)) in
+    rw (in-S-or-P p (pairs .begun) (pairsIn starts joins (pairs .count)) (h .in-order) below, yes-or-no) (either (leb (getD joins at 0) p))
   where
-    either : (b : Bool) → cond b Parallel (cond (not b) Series NoBag) ≡ cond b Parallel Series
-    either true = refl
-    either false = refl
+    either : (b : Bool)
+        → (cond b InParallel InSeries ≡ cond b InParallel (cond (not b) InSeries InNoBag))
+        × ((saysParallel (cond b InParallel InSeries) ≡ b) × (refusalOf (cond b InParallel InSeries) ≡ cond (not b || b) 0 12))
+    either true = (refl, (refl, refl))
+    either false = (refl, (refl, refl))
 
-pub asked-parallel : (starts joins : List ℕ) (runs : Runs) (p at : ℕ) → Room starts joins runs → p < runs .begun
-    → Found starts (runs .pairs - 1) p at → getD joins at 0 ≤ p → Parallel ≡ asked p (held starts joins runs)
-asked-parallel starts joins runs p at h below f joined = sym (asked-below starts joins runs p at h below f ∙ rw (le-leb _ _ joined) refl)
+pub found-parallel : (starts joins : List ℕ) (pairs : Pairs) (p at : ℕ) → Room starts joins pairs → p < pairs .begun
+    → Found starts (pairs .count - 1) p at → getD joins at 0 ≤ p → Answers starts joins pairs p InParallel
+found-parallel starts joins pairs p at h below f joined = rw (le-leb _ _ joined) at (found-answer starts joins pairs p at h below f)
 
-pub asked-series : (starts joins : List ℕ) (runs : Runs) (p at : ℕ) → Room starts joins runs → p < runs .begun
-    → Found starts (runs .pairs - 1) p at → p < getD joins at 0 → Series ≡ asked p (held starts joins runs)
-asked-series starts joins runs p at h below f early = sym (asked-below starts joins runs p at h below f ∙ rw (lt-leb _ _ early) refl)
+pub found-series : (starts joins : List ℕ) (pairs : Pairs) (p at : ℕ) → Room starts joins pairs → p < pairs .begun
+    → Found starts (pairs .count - 1) p at → p < getD joins at 0 → Answers starts joins pairs p InSeries
+found-series starts joins pairs p at h below f early = rw (lt-leb _ _ early) at (found-answer starts joins pairs p at h below f)
 
 -- Whoever has begun is in a bag, and nobody else.
-pub in-some : (starts joins : List ℕ) (runs : Runs) (p : ℕ) → Room starts joins runs → ltb p (runs .begun) ≡ inSomeBag p (held starts joins runs)
-unfolding held inSomeBag
-in-some starts joins runs p h =
-    elim (decLt p (runs .begun)) [
+pub in-some : (starts joins : List ℕ) (pairs : Pairs) (p : ℕ) → Room starts joins pairs → ltb p (pairs .begun) ≡ inSomeBag p (bagsIn starts joins pairs)
+unfolding bagsIn inSomeBag
+in-some starts joins pairs p h =
+    elim (decLt p (pairs .begun)) [
       | yes below ↦
-          rw (lt-ltb _ _ below, in-S-or-P p (runs .begun) (pairsIn starts joins (runs .pairs)) (h .in-order) below)
-          (sym (one-of-two (inPBag p (asBags (pairsIn starts joins (runs .pairs)) (runs .begun)))))
+          rw (lt-ltb _ _ below, in-S-or-P p (pairs .begun) (pairsIn starts joins (pairs .count)) (h .in-order) below)
+          (sym (one-of-two (inPBag p (asBags (pairsIn starts joins (pairs .count)) (pairs .begun)))))
       | no above ↦
-          let none = in-none-above p (runs .begun) (pairsIn starts joins (runs .pairs)) (h .in-order) (omega arith) in
-          rw (le-ltb p (runs .begun) (omega arith)) (sym (ap (λ (u : ℕ × Bool × Bool). u .1 || u .2) none))
+          let none = in-none-above p (pairs .begun) (pairsIn starts joins (pairs .count)) (h .in-order) (omega arith) in
+          rw (le-ltb p (pairs .begun) (omega arith)) (sym (ap (λ (u : ℕ × Bool × Bool). u .1 || u .2) none))
     ]
   where
     one-of-two : (b : Bool) → (not b || b) ≡ true

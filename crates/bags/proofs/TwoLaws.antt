@@ -11,14 +11,13 @@ use native.Mathlib.Nat.{le-refl}
 use native.Mathlib.Decide.{decLt}
 use native.Mathlib.Omega.{arith}
 use lib.Arith.{lt-of-le-ne}
-use Rattle.bags.specs.Parallel.{Act, return, begun, opens, mainOpen, maker, Parallel}
+use Rattle.bags.specs.Parallel.{Act, begun, opens, mainOpen, maker, Parallel}
+use Rattle.bags.specs.Theorems.{Lemma1, Lemma2}
 use Rattle.bags.proofs.Witness.{serves, serves-earlier}
 use Rattle.bags.proofs.Stack.{begun-grows, main-open-before, running, maker-begun, in-body, stack-back, bodies-nest}
 use Rattle.bags.proofs.Stack.{stays, below-top, maker-highest}
 
--- Lemma 1 of 002: a precedes e, and is parallel with j; then e is parallel with j. It holds of any three events, the middle one no return.
-pub lemma-1 : (events : ℕ → Act) (a e j : ℕ) → a < e → e < j → events e ≢ return
-    → (Parallel events a e → ⊥) → Parallel events a j → Parallel events e j
+pub lemma-1 : (events : ℕ → Act) → Lemma1 events
 lemma-1 events a e j h l no-return not-parallel p =
     elim (decLt e (p .r)) [
       | yes o ↦ serves-earlier events a j e j p (omega arith) o (p .r<j) (le-refl j)
@@ -64,9 +63,7 @@ later-by-second events a e j main-open p q follows k h l second same =
         let w = stays events (suc (q .r)) k x (xs ++ p .G ∷ rest) stack u (λ n o v e m. q .no-return-of-G n o (omega arith) e (m ∙ top)) in
         omega (arith, below-top events (q .s) x (p .G) xs rest t, maker-highest events k x (w .0) (xs ++ p .G ∷ rest) (w .1))
 
--- Lemma 2 of 002: a is parallel with e, and e with j; then a is parallel with j.
-pub lemma-2 : (events : ℕ → Act) (a e j : ℕ) → mainOpen events j ≡ true → a < e → e < j
-    → Parallel events a e → Parallel events e j → Parallel events a j
+pub lemma-2 : (events : ℕ → Act) → Lemma2 events
 lemma-2 events a e j main-open h l p q =
     elim (decLt (q .s) a) [
       | yes o ↦ serves-earlier events e j a j q o (omega arith) (q .r<j) (le-refl j)

@@ -1,14 +1,12 @@
 -- A witness of `Parallel` serves other events too. Assumes nothing.
 use Prim.Native.Nat.{ℕ, _<_, _≤_}
-use mathlib.Core.Path.{_≡_}
-use mathlib.Core.Logic.{_≢_}
 use native.Mathlib.Omega.{arith}
-use Rattle.bags.specs.Parallel.{Act, return, sync, maker, Parallel}
+use Rattle.bags.specs.Parallel.{Act, return, sync, NoneBetween, Parallel}
 
 module _ (events : ℕ → Act) (i j i′ j′ : ℕ) (w : Parallel events i j) where
   -- It serves an event in its body and one after its return, unless its procedure syncs or returns between the return and that one.
-  unfoldable pub serves : w .s < i′ → i′ < w .r → w .r < j′ → ((k : ℕ) → w .r < k → k < j′ → events k ≡ sync → maker events k ≢ w .G)
-      → ((k : ℕ) → w .r < k → k < j′ → events k ≡ return → maker events k ≢ w .G) → Parallel events i′ j′
+  unfoldable pub serves : w .s < i′ → i′ < w .r → w .r < j′ → NoneBetween events sync (w .G) (w .r) j′
+      → NoneBetween events return (w .G) (w .r) j′ → Parallel events i′ j′
   serves after-s before-r after-r no-sync no-return =
       record {
         s = w .s;

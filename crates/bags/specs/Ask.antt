@@ -1,21 +1,29 @@
--- Where a procedure is. A reader who wants only the answer of `ask` can skip the search at the end.
+-- Where a procedure is.
 use Prim.Native.Nat.{ℕ, suc, _≤_, _<_}
-use mathlib.Core.Bool.{Bool, cond, _||_}
+use mathlib.Core.Bool.{Bool, true, false, cond}
 use mathlib.Core.List.{List}
 use lib.ListN.{getD}
 use Rattle.bags.specs.declared.ask.Answer.{Answer}
-use Rattle.bags.specs.declared.ask.Answer.the-variants.{Series, Parallel, NoBag}
+use Rattle.bags.specs.declared.ask.Answer.the-variants.{InSeries, InParallel, InNoBag}
 use Rattle.bags.specs.Bags.{Bags, inSBag, inPBag}
 
--- Procedure p is in a P-bag and so in parallel with now, in an S-bag and so in series with it, or in no bag.
+-- In an S-bag, and so in series with now; in a P-bag, and so in parallel with it; or in no bag.
 unfoldable pub asked : ℕ → List Bags → Answer
-asked p bs = cond (inPBag p bs) Parallel (cond (inSBag p bs) Series NoBag)
+asked p bs = cond (inPBag p bs) InParallel (cond (inSBag p bs) InSeries InNoBag)
 
--- Is it in a bag at all?
-unfoldable pub inSomeBag : ℕ → List Bags → Bool
-inSomeBag p bs = inSBag p bs || inPBag p bs
+-- What each answer says: yes or no to "parallel", and the number of the refusal, 0 for none.
+abbrev pub saysParallel : Answer → Bool
+saysParallel InSeries = false
+saysParallel InParallel = true
+saysParallel InNoBag = false
 
--- The search: the place of the last pair that starts at or below p, among those up to the place `top`.
+abbrev pub refusalOf : Answer → ℕ
+refusalOf InSeries = 0
+refusalOf InParallel = 0
+refusalOf InNoBag = 12
+
+-- The search inside `ask`, which a reader who wants only its answer can skip: the place of the last pair that starts at or below p, among those up
+-- to the place `top`.
 pub record Found (starts : List ℕ) (top p at : ℕ) : Type 0 where
   pub within : at ≤ top
   pub starts-below : getD starts at 0 ≤ p

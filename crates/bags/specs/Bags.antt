@@ -1,9 +1,10 @@
--- The SP-bags of 002, as it makes them from the events before: each open procedure has an S-bag and a P-bag of procedures.
+-- The SP-bags that 002 uses, as they are made from the events before: each open procedure has an S-bag and a P-bag of procedures. What spawn, sync and
+-- return do to them, 002 takes over from the SP-bags algorithm, which 004 states in its section 3.1.
 use Prim.Native.Nat.{ℕ, zero, suc, _+_}
 use mathlib.Core.Bool.{Bool, false, cond, _||_}
 use mathlib.Core.List.{List, [], _∷_, _++_}
 use lib.Dec.{eqb}
-use Rattle.bags.specs.Parallel.{Act, spawn, return, sync, other, member, begun}
+use Rattle.bags.specs.Parallel.{Act, spawn, return, sync, other, member, begun, maker}
 
 -- The bags of one open procedure.
 pub record Bags : Type 0 where
@@ -47,7 +48,14 @@ unfoldable pub inPBag : ℕ → List Bags → Bool
 inPBag p [] = false
 inPBag p (b ∷ bs) = member p (b .P) || inPBag p bs
 
--- In how many bags p is, a bag that holds it twice counting twice.
+-- In a P-bag is who is parallel with the present event j, of the makers of earlier events i; that this is the definition's yes or no is a theorem.
+unfoldable pub bagsSayParallel : (ℕ → Act) → ℕ → ℕ → Bool
+bagsSayParallel events i j = inPBag (maker events i) (bags events j)
+
+-- Is p in a bag at all? How often is it in one list of procedures, and in all the bags together?
+unfoldable pub inSomeBag : ℕ → List Bags → Bool
+inSomeBag p bs = inSBag p bs || inPBag p bs
+
 unfoldable pub timesIn : ℕ → List ℕ → ℕ
 timesIn p [] = 0
 timesIn p (x ∷ xs) = cond (eqb p x) 1 0 + timesIn p xs

@@ -4,3 +4,4 @@ pub mod YesOrNo
 pub mod Runs
 pub mod Ask
 pub mod Steps
+pub mod Theorems

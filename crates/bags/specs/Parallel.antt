@@ -46,11 +46,15 @@ module _ (events : ℕ → Act) where
   unfoldable pub maker : ℕ → ℕ
   maker k = headD (opens k) 0
 
-  -- r is the matching return of spawn s: the return that the procedure makes which s started.
+  -- r is the matching return of spawn s: the return made by the procedure that s started.
   pub record MatchingReturn (s r : ℕ) : Type 0 where
     pub spawns : events s ≡ spawn
     pub returns : events r ≡ return
     pub made-by-started : maker r ≡ begun s
+
+  -- No event of this act, made by G itself, lies between r and j (r and j themselves left out).
+  abbrev pub NoneBetween : Act → ℕ → ℕ → ℕ → Type 0
+  NoneBetween act G r j = (k : ℕ) → r < k → k < j → events k ≡ act → maker k ≢ G
 
   -- Let i come before j. They are parallel exactly if some spawn s, made by procedure G, has its matching return r with s < i < r < j, and neither
   -- a sync made by G itself nor G's own return lies between r and j.
@@ -63,5 +67,9 @@ module _ (events : ℕ → Act) where
     pub s<i : s < i
     pub i<r : i < r
     pub r<j : r < j
-    pub no-sync-of-G : (k : ℕ) → r < k → k < j → events k ≡ sync → maker k ≢ G
-    pub no-return-of-G : (k : ℕ) → r < k → k < j → events k ≡ return → maker k ≢ G
+    pub no-sync-of-G : NoneBetween sync G r j
+    pub no-return-of-G : NoneBetween return G r j
+
+  -- Otherwise i precedes j.
+  abbrev pub Precedes : ℕ → ℕ → Type 0
+  Precedes i j = Parallel i j → ⊥

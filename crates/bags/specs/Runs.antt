@@ -4,7 +4,7 @@ use Prim.Native.Nat.{ℕ, zero, suc, _-_, _≤_, _<_}
 use mathlib.Core.Path.{_≡_}
 use mathlib.Core.List.{List, [], _∷_}
 use lib.ListN.{length, getD}
-use Rattle.bags.specs.declared.ask.Runs.{Runs}
+use Rattle.bags.specs.declared.ask.Pairs.{Pairs}
 use Rattle.bags.specs.Bags.{Bags}
 
 pub record Pair : Type 0 where
@@ -35,17 +35,17 @@ pairsIn starts joins zero = []
 pairsIn starts joins (suc d) = record { start = getD starts d 0; join = getD joins d 0 } ∷ pairsIn starts joins d
 
 -- The size of a piece.
-abbrev pub room : ℕ
-room = 4096
+abbrev pub pieceSize : ℕ
+pieceSize = 4096
 
 -- The bags that the pieces hold.
-unfoldable pub held : List ℕ → List ℕ → Runs → List Bags
-held starts joins runs = asBags (pairsIn starts joins (runs .pairs)) (runs .begun)
+unfoldable pub bagsIn : List ℕ → List ℕ → Pairs → List Bags
+bagsIn starts joins pairs = asBags (pairsIn starts joins (pairs .count)) (pairs .begun)
 
 -- The pieces are long enough, and hold the bags of open procedures, main's among them.
-pub record Room (starts joins : List ℕ) (runs : Runs) : Type 0 where
-  pub starts-fit : room ≤ length starts
-  pub joins-fit : room ≤ length joins
-  pub pairs-fit : runs .pairs ≤ room
-  pub main-open : 0 < runs .pairs
-  pub in-order : InOrder (pairsIn starts joins (runs .pairs)) (runs .begun)
+pub record Room (starts joins : List ℕ) (pairs : Pairs) : Type 0 where
+  pub starts-fit : pieceSize ≤ length starts
+  pub joins-fit : pieceSize ≤ length joins
+  pub pairs-fit : pairs .count ≤ pieceSize
+  pub main-open : 0 < pairs .count
+  pub in-order : InOrder (pairsIn starts joins (pairs .count)) (pairs .begun)

@@ -1,27 +1,29 @@
 // The question "is this procedure in series or in parallel with now, or in no bag?", asked of runs of procedure numbers. It
 // knows pairs and nothing of the events that made them, so every family of traces whose bags are runs can share it.
 ghost use mathlib.Core.Path.{_≡_};
+ghost use mathlib.Core.Bool.{cond};
 ghost use mathlib.Core.List.{List};
 ghost use Prim.Native.Nat.{ℕ, _≤_, _<_};
 ghost use lib.ListN.{length, getD};
 ghost use lib.Dec.{ltb};
-ghost use Rattle.bags.specs.Runs.{room, held, Room};
-ghost use Rattle.bags.specs.Ask.{asked, inSomeBag, Found, Bracketed};
+ghost use Rattle.bags.specs.Runs.{pieceSize, bagsIn, Room};
+ghost use Rattle.bags.specs.Ask.{asked, saysParallel, refusalOf, Found, Bracketed};
+ghost use Rattle.bags.specs.Bags.{inPBag, inSomeBag};
 
 // The number of a procedure, from 0 for main. It names a spawned body, and no place in the trace.
-pub struct Procedure(pub u32);
+pub struct ProcedureNumber(pub u32);
 
 // How many pairs the lent pieces hold, and how many procedures have begun.
-pub struct Runs {
-    pub pairs: usize,
+pub struct Pairs {
+    pub count: usize,
     pub begun: u32,
 }
 
 // Where a procedure is.
 pub enum Answer {
-    Series,
-    Parallel,
-    NoBag,
+    InSeries,
+    InParallel,
+    InNoBag,
 }
 
 // Two places of the pairs, the one that is sought at the lower or between them.
@@ -30,28 +32,30 @@ struct Bracket {
     high: usize,
 }
 
-impl Runs {
+impl Pairs {
     // Is this procedure in series or in parallel with what runs now, or in no bag?
-    pub fn ask(self, starts: &[u32], joins: &[u32], procedure: Procedure) -> Answer
+    pub fn ask(self, starts: &[u32], joins: &[u32], procedure: ProcedureNumber) -> Answer
         requires { ⌜ Room (now starts) (now joins) self ⌝ }
-        ensures { λ r. ⌜ r ≡ asked (procedure .0) (held (now (starts .entry)) (now (joins .entry)) self) ⌝ }
+        ensures result { λ r. ⌜ r ≡ asked (procedure .0) (bagsIn (now (starts .entry)) (now (joins .entry)) self) ⌝ }
+        ensures yes_or_no { λ r. ⌜ saysParallel r ≡ inPBag (procedure .0) (bagsIn (now (starts .entry)) (now (joins .entry)) self) ⌝ }
+        ensures refusal { λ r. ⌜ refusalOf r ≡ cond (inSomeBag (procedure .0) (bagsIn (now (starts .entry)) (now (joins .entry)) self)) 0 12 ⌝ }
     {
         let p = procedure.0;
         if self.begun <= p {
-            return Answer::NoBag;
+            return Answer::InNoBag;
         }
-        let at = place_of(starts, self.pairs - 1, p);
+        let at = place_of(starts, self.count - 1, p);
         if joins[at] <= p {
-            Answer::Parallel
+            Answer::InParallel
         } else {
-            Answer::Series
+            Answer::InSeries
         }
     }
 
     // Is this procedure in a bag at all?
-    pub fn in_some_bag(self, procedure: Procedure) -> bool
+    pub fn in_some_bag(self, procedure: ProcedureNumber) -> bool
         ensures result { λ r. ⌜ r ≡ ltb (procedure .0) (self .begun) ⌝ }
-        ensures bags { λ r. ⌜ ((starts joins : List ℕ) → Room starts joins self → r ≡ inSomeBag (procedure .0) (held starts joins self)) ⌝ }
+        ensures bags { λ r. ⌜ ((starts joins : List ℕ) → Room starts joins self → r ≡ inSomeBag (procedure .0) (bagsIn starts joins self)) ⌝ }
     {
         procedure.0 < self.begun
     }
@@ -60,7 +64,7 @@ impl Runs {
 // The place of the last pair that starts at or below p, from `top` on downward. Mostly that is `top` itself, or close to it.
 fn place_of(starts: &[u32], top: usize, p: u32) -> usize
     requires { ⌜ top < length (now starts) ⌝ }
-    requires { ⌜ top < room ⌝ }
+    requires { ⌜ top < pieceSize ⌝ }
     requires { ⌜ getD (now starts) 0 0 ≤ p ⌝ }
     ensures { λ r. ⌜ Found (now (starts .entry)) top p r ⌝ }
 {
@@ -74,7 +78,7 @@ fn place_of(starts: &[u32], top: usize, p: u32) -> usize
 // Two places around it, found in steps that double.
 fn step_down(starts: &[u32], top: usize, p: u32) -> Bracket
     requires { ⌜ top < length (now starts) ⌝ }
-    requires { ⌜ top < room ⌝ }
+    requires { ⌜ top < pieceSize ⌝ }
     requires { ⌜ getD (now starts) 0 0 ≤ p ⌝ }
     requires { ⌜ p < getD (now starts) top 0 ⌝ }
     ensures { λ (r : Bracket). ⌜ Bracketed (now (starts .entry)) top p (r .low) (r .high) ⌝ }
@@ -98,7 +102,7 @@ fn step_down(starts: &[u32], top: usize, p: u32) -> Bracket
 // The place, found by halves.
 fn halve(starts: &[u32], top: usize, around: Bracket, p: u32) -> usize
     requires { ⌜ top < length (now starts) ⌝ }
-    requires { ⌜ top < room ⌝ }
+    requires { ⌜ top < pieceSize ⌝ }
     requires { ⌜ Bracketed (now starts) top p (around .low) (around .high) ⌝ }
     ensures { λ r. ⌜ Found (now (starts .entry)) top p r ⌝ }
 {

@@ -10,7 +10,7 @@ returns : tie.Need-returns
 returns c = refused _ _ _ (search needs)
 
 -- The pair's place lies within the pieces.
-left : (c : tie.Else1) → Free (c .before .args .starts .now) (c .before .args .joins .now) (c .before .args .runs)
+left : (c : tie.Else1) → Free (c .before .args .starts .now) (c .before .args .joins .now) (c .before .args .pairs)
 left c = room-left _ _ _ (c .before .pre) (c .if1 .left)
 
 mul-starts : tie.Need-mul-starts
@@ -41,7 +41,7 @@ same-length-2 : tie.Need-same-length-2
 same-length-2 c = search needs
 
 returns-2 : tie.Need-returns-2
-returns-2 c = begun (c .before .args .starts .now) (c .before .args .joins .now) (c .before .args .runs) (c .before .pre) (c .if1 .left)
+returns-2 c = begun (c .before .args .starts .now) (c .before .args .joins .now) (c .before .args .pairs) (c .before .pre) (c .if1 .left)
 
 pub spawn-spec : {M : Type 1} → statement M
 spawn-spec =

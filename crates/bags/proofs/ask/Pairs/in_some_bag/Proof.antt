@@ -1,8 +1,8 @@
 -- Whoever has begun is in a bag: the law `in-some`. Assumes nothing.
 use mathlib.Core.Path.{refl}
 use Rattle.bags.proofs.Pieces.{in-some}
-use Rattle.bags.proofs.ask.Runs.in_some_bag.Statement.{statement}
-use Rattle.bags.proofs.ask.Runs.in_some_bag.Tie as tie
+use Rattle.bags.proofs.ask.Pairs.in_some_bag.Statement.{statement}
+use Rattle.bags.proofs.ask.Pairs.in_some_bag.Tie as tie
 
 returns : tie.Need-returns
 returns c = (refl, λ starts joins room. in-some starts joins _ _ room)
