@@ -3,7 +3,7 @@
 use Prim.Native.Nat.{ℕ}
 use mathlib.Core.Path.{_≡_, refl, sym, ap}
 use mathlib.Core.Logic.{_≢_}
-use mathlib.Core.Bool.{cond, true≢false}
+use mathlib.Core.Bool.{true, false, cond, true≢false}
 use mathlib.Core.List.{List, [], _∷_, _++_, headD, map}
 use native.Mathlib.Omega.{arith}
 use lib.ListN.{getD}
@@ -12,10 +12,10 @@ use Rattle.bags.specs.declared.ask.Answer.the-variants.{InSeries, InPara
 use Rattle.bags.specs.declared.ask.Pairs.{Pairs}
 use Rattle.bags.specs.declared.Spawned.the-variants.{Begun, Full}
 use Rattle.bags.specs.Parallel.{Act, spawn, return, sync, other, member, begunAfter, opensAfter, begun, opens, mainOpen, maker, Parallel}
-use Rattle.bags.specs.Bags.{bagsOfNew, synced, handed, bagsAfter, bags, inSBag, inPBag, bagsSayParallel}
+use Rattle.bags.specs.Bags.{bagsOfNew, synced, handed, bagsAfter, bags, inSBag, inPBag, bagsSayParallel, inSomeBag}
 use Rattle.bags.specs.Runs.{numbersFrom, run, asBags, pairsIn, bagsIn}
 use Rattle.bags.specs.Ask.{asked}
-use Rattle.bags.specs.Steps.{Carries, spawned, pushed}
+use Rattle.bags.specs.Steps.{runner, Begins, Carries, spawned, pushed}
 use Rattle.bags.proofs.Laws.{bags-agree}
 
 -- The events of a list, by their numbers.
@@ -137,6 +137,9 @@ pub pieces-as-known :
     ≡ InSeries ∷ InSeries ∷ InParallel ∷ InSeries ∷ InNoBag ∷ [])
     × (answers (0 ∷ 1 ∷ 3 ∷ []) (1 ∷ 4 ∷ 4 ∷ []) (record { count = 2; begun = 4 }) (0 ∷ 1 ∷ 2 ∷ 3 ∷ 4 ∷ [])
     ≡ InSeries ∷ InSeries ∷ InSeries ∷ InSeries ∷ InNoBag ∷ [])
+    × (runner (bagsIn (0 ∷ 1 ∷ 3 ∷ []) (1 ∷ 2 ∷ 4 ∷ []) (record { count = 3; begun = 4 })) ≡ 3)
+    × (inSomeBag 3 (bagsIn (0 ∷ 1 ∷ 3 ∷ []) (1 ∷ 2 ∷ 4 ∷ []) (record { count = 3; begun = 4 })) ≡ true)
+    × (inSomeBag 4 (bagsIn (0 ∷ 1 ∷ 3 ∷ []) (1 ∷ 2 ∷ 4 ∷ []) (record { count = 3; begun = 4 })) ≡ false)
     -- Five procedures, each spawned by the one before, all open.
     × (answers (0 ∷ 1 ∷ 2 ∷ 3 ∷ 4 ∷ []) (1 ∷ 2 ∷ 3 ∷ 4 ∷ 5 ∷ []) (record { count = 5; begun = 5 }) (0 ∷ 1 ∷ 2 ∷ 3 ∷ 4 ∷ 5 ∷ [])
     ≡ InSeries ∷ InSeries ∷ InSeries ∷ InSeries ∷ InSeries ∷ InNoBag ∷ [])
@@ -145,8 +148,8 @@ pub pieces-as-known :
     × (spawned (record { count = 2; begun = 4096 }) ≡ Full)
     × (pushed (record { count = 2; begun = 4095 }) 7 (0 ∷ 1 ∷ 3 ∷ []) ≡ 0 ∷ 1 ∷ 7 ∷ [])
     × (pushed (record { count = 2; begun = 4096 }) 7 (0 ∷ 1 ∷ 3 ∷ []) ≡ 0 ∷ 1 ∷ 3 ∷ [])
-unfolding member inSBag inPBag numbersFrom run asBags pairsIn bagsIn asked spawned pushed
-pieces-as-known = (refl, refl, refl, refl, refl, refl, refl, refl)
+unfolding member inSBag inPBag numbersFrom run asBags pairsIn bagsIn asked inSomeBag runner headD spawned pushed
+pieces-as-known = (refl, refl, refl, refl, refl, refl, refl, refl, refl, refl, refl)
 
 -- ---- Pieces that break a contract -------------------------------------------------------------------------------------------------------------
 
@@ -173,3 +176,13 @@ pub new-in-own-P-bag :
     Carries spawn (0 ∷ 9 ∷ []) (1 ∷ 9 ∷ []) (record { count = 1; begun = 1 }) (0 ∷ 1 ∷ []) (1 ∷ 1 ∷ []) (record { count = 2; begun = 2 }) → ⊥
 unfolding member bagsOfNew bagsAfter inPBag numbersFrom run asBags pairsIn bagsIn
 new-in-own-P-bag c = true≢false (ap (inPBag 1) (c .bags))
+
+-- Main begins. A join that is not past its start puts main into its own P-bag.
+pub main-in-own-P-bag : Begins (9 ∷ []) (9 ∷ []) (0 ∷ []) (0 ∷ []) (record { count = 1; begun = 1 }) → ⊥
+unfolding member bagsOfNew inPBag numbersFrom run asBags pairsIn bagsIn
+main-in-own-P-bag b = true≢false (ap (inPBag 0) (b .bags))
+
+-- 1 returns to main. If its pair stays, it runs on.
+pub pair-kept : Carries return (0 ∷ 1 ∷ []) (1 ∷ 2 ∷ []) (record { count = 2; begun = 2 }) (0 ∷ 1 ∷ []) (1 ∷ 2 ∷ []) (record { count = 2; begun = 2 }) → ⊥
+unfolding synced handed bagsAfter numbersFrom run asBags pairsIn bagsIn runner headD
+pair-kept c = let z : _≡_ {A = ℕ} 1 0 = ap runner (c .bags) in omega arith
