@@ -15,30 +15,41 @@ use lib.Dec.{leb, ltb}
 use borrow.Author.Tests.{leb-true, ltb-true}
 use Rattle.bags.specs.Parallel.{Act, spawn, return, sync, other, member, begunAfter, opensAfter}
 use Rattle.bags.specs.Parallel.{begun, opens, mainOpen, maker, MatchingReturn, Parallel}
-use Rattle.bags.specs.Bags.{bagsOfNew, bagsAfter, bags, inPBag}
+use Rattle.bags.specs.Bags.{Bags, bagsOfNew, synced, handed, bagsAfter, bags, inPBag}
+use Rattle.bags.specs.Theorems.{BagsOfOpen}
 use Rattle.bags.specs.Runs.{Pair, numbersFrom, run, asBags, InOrder}
 use Rattle.bags.proofs.Witness.{serves, serves-earlier}
-use Rattle.bags.proofs.Stack.{begun-grows, main-open-before, maker-begun, started, in-body, stack-back}
+use Rattle.bags.proofs.Stack.{begun-grows, main-open-before, main-was-open, maker-begun, started, in-body, stack-back}
 use Rattle.bags.proofs.Runs.{joined, pairsAfter, bags-after, in-order-after, between-yes, member-run}
 
--- ---- where pairs start
+-- ---- where pairs start, and who owns bags
 
--- Where the pairs start, the last pair first; and where the last pair starts.
+-- Where the pairs start, the last pair first; where the last pair starts; and who owns bags.
 abbrev pub starts : List Pair → List ℕ
 starts ps = map (λ (x : Pair). x .start) ps
+
+abbrev pub owners : List Bags → List ℕ
+owners bs = map (λ (b : Bags). b .owner) bs
 
 unfoldable top : List Pair → ℕ
 top ps = headD (starts ps) 0
 
--- What an event makes of the pairs' starts is what it makes of the open procedures.
-starts-after : (act : Act) (n : ℕ) (ps : List Pair) → starts (pairsAfter act n ps) ≡ opensAfter act n (starts ps)
-unfolding pairsAfter opensAfter joined
-starts-after spawn n ps = refl
-starts-after return n [] = refl
-starts-after return n (x ∷ ps) = refl
-starts-after sync n [] = refl
-starts-after sync n (x ∷ ps) = refl
-starts-after other n ps = refl
+-- The bags that pairs stand for are owned by the starts.
+pub owners-are-starts : (ps : List Pair) (n : ℕ) → owners (asBags ps n) ≡ starts ps
+unfolding asBags
+owners-are-starts [] n = refl
+owners-are-starts (x ∷ ps) n = ap (λ (gs : List ℕ). x .start ∷ gs) (owners-are-starts ps (x .start))
+
+-- What an event makes of the bags' owners is what it makes of the open procedures.
+owners-after : (act : Act) (n : ℕ) (bs : List Bags) → owners (bagsAfter act n bs) ≡ opensAfter act n (owners bs)
+unfolding bagsAfter opensAfter bagsOfNew synced handed
+owners-after spawn n bs = refl
+owners-after return n [] = refl
+owners-after return n (c ∷ []) = refl
+owners-after return n (c ∷ b ∷ bs) = refl
+owners-after sync n [] = refl
+owners-after sync n (b ∷ bs) = refl
+owners-after other n bs = refl
 
 -- ---- P-runs of pairs
 
@@ -156,38 +167,43 @@ module _ (events : ℕ → Act) where
   pairsBefore zero = record { start = 0; join = 1 } ∷ []
   pairsBefore (suc k) = pairsAfter (events k) (begun events k) (pairsBefore k)
 
-  -- They start with the open procedures, the running one on top, so while main is open there is one.
-  starts-are-opens : (k : ℕ) → starts (pairsBefore k) ≡ opens events k
-  unfolding pairsBefore opens
-  starts-are-opens zero = refl
-  starts-are-opens (suc k) =
-      starts-after (events k) (begun events k) (pairsBefore k) ∙ ap (opensAfter (events k) (begun events k)) (starts-are-opens k)
+  -- The bags are those of the open procedures.
+  pub bags-of-open : BagsOfOpen events
+  unfolding bags opens bagsOfNew
+  bags-of-open zero = refl
+  bags-of-open (suc k) = owners-after (events k) (begun events k) (bags events k) ∙ ap (opensAfter (events k) (begun events k)) (bags-of-open k)
 
-  top-is-maker : (k : ℕ) → top (pairsBefore k) ≡ maker events k
-  unfolding top maker
-  top-is-maker k = ap (λ (gs : List ℕ). headD gs 0) (starts-are-opens k)
+  -- So pairs whose runs they are start with the open procedures, and while main is open there is one.
+  starts-opens : (k : ℕ) (ps : List Pair) → bags events k ≡ asBags ps (begun events k) → starts ps ≡ opens events k
+  starts-opens k ps e = sym (owners-are-starts ps (begun events k)) ∙ ap owners (sym e) ∙ bags-of-open k
 
-  some-pair : (k : ℕ) → mainOpen events k ≡ true → pairsBefore k ≢ []
+  some-pair : (k : ℕ) (ps : List Pair) → bags events k ≡ asBags ps (begun events k) → mainOpen events k ≡ true → ps ≢ []
   unfolding mainOpen member
-  some-pair k main e =
-      let none : opens events k ≡ [] = sym (starts-are-opens k) ∙ ap starts e in
-      true≢false (sym main ∙ ap (member 0) none)
+  some-pair k ps e main none =
+      let nobody : opens events k ≡ [] = sym (starts-opens k ps e) ∙ ap starts none in
+      true≢false (sym main ∙ ap (member 0) nobody)
 
-  -- They are in order, and the bags are their runs.
+  -- While main is open the pairs are in order, and the bags are their runs.
+  in-order-and-runs : (k : ℕ) → mainOpen events k ≡ true
+      → InOrder (pairsBefore k) (begun events k) × (bags events k ≡ asBags (pairsBefore k) (begun events k))
+  unfolding pairsBefore begun bags asBags bagsOfNew run numbersFrom InOrder
+  in-order-and-runs zero main = ((omega arith, omega arith, refl), refl)
+  in-order-and-runs (suc k) main =
+      let before = in-order-and-runs k (main-was-open events k main) in
+      let runs : bags events (suc k) ≡ asBags (pairsBefore (suc k)) (begun events (suc k)) =
+      ap (bagsAfter (events k) (begun events k)) (before .1) ∙ sym (bags-after (events k) (begun events k) (pairsBefore k) (before .0)) in
+      (in-order-after (events k) (begun events k) (pairsBefore k) (before .0) (some-pair (suc k) (pairsBefore (suc k)) runs main), runs)
+
   pub in-order : (k : ℕ) → mainOpen events k ≡ true → InOrder (pairsBefore k) (begun events k)
-  unfolding pairsBefore begun InOrder
-  in-order zero main = (omega arith, omega arith, refl)
-  in-order (suc k) main =
-      let before = main-open-before events k (suc k) (omega arith) main in
-      in-order-after (events k) (begun events k) (pairsBefore k) (in-order k before) (some-pair (suc k) main)
+  in-order k main = in-order-and-runs k main .0
 
   pub bags-are-runs : (k : ℕ) → mainOpen events k ≡ true → bags events k ≡ asBags (pairsBefore k) (begun events k)
-  unfolding pairsBefore begun bags asBags bagsOfNew run numbersFrom
-  bags-are-runs zero main = refl
-  bags-are-runs (suc k) main =
-      let before = main-open-before events k (suc k) (omega arith) main in
-      ap (bagsAfter (events k) (begun events k)) (bags-are-runs k before)
-      ∙ sym (bags-after (events k) (begun events k) (pairsBefore k) (in-order k before))
+  bags-are-runs k main = in-order-and-runs k main .1
+
+  -- The last pair is the running procedure's.
+  top-is-maker : (k : ℕ) → mainOpen events k ≡ true → top (pairsBefore k) ≡ maker events k
+  unfolding top maker
+  top-is-maker k main = ap (λ (gs : List ℕ). headD gs 0) (starts-opens k (pairsBefore k) (bags-are-runs k main))
 
   -- ---- witnesses and P-runs
 
@@ -209,9 +225,9 @@ module _ (events : ℕ → Act) where
       go act k old new (inr before) e q = old before e q
 
   -- After a matching return whoever made the spawn runs again, and the last pair starts with it.
-  top-at-return : (s r : ℕ) → MatchingReturn events s r → top (pairsBefore (suc r)) ≡ maker events s
+  top-at-return : (s r : ℕ) → mainOpen events (suc r) ≡ true → MatchingReturn events s r → top (pairsBefore (suc r)) ≡ maker events s
   unfolding maker
-  top-at-return s r m = top-is-maker (suc r) ∙ ap (λ (gs : List ℕ). headD gs 0) (stack-back events s r m)
+  top-at-return s r main m = top-is-maker (suc r) main ∙ ap (λ (gs : List ℕ). headD gs 0) (stack-back events s r m)
 
   -- Right after a witness's return, the maker of the earlier event is in the P-run of the procedure that made the spawn,
   at-the-return : (i j : ℕ) (w : Parallel events i j) → mainOpen events (suc (w .r)) ≡ true
@@ -221,13 +237,13 @@ module _ (events : ℕ → Act) where
       let s = w .s in
       let r = w .r in
       let returned = w .matching .returns in
-      let open-at-r = main-open-before events r (suc r) (omega arith) main in
+      let open-at-r = main-was-open events r main in
       let inside = in-body events s r i (w .matching) (w .s<i) (w .i<r) in
-      let ends : top (pairsBefore r) ≤ maker events i = omega (arith, top-is-maker r, w .matching .made-by-started, inside) in
+      let ends : top (pairsBefore r) ≤ maker events i = omega (arith, top-is-maker r open-at-r, w .matching .made-by-started, inside) in
       let begins = maker-begun-later i r (omega (arith, w .i<r)) open-at-r in
-      let next = top-at-return s r (w .matching) ∙ w .made-by-G in
+      let next = top-at-return s r main (w .matching) ∙ w .made-by-G in
       rw returned
-      (comes-into-P (w .G) (maker events i) (begun events r) (pairsBefore r) (in-order r open-at-r) (rw returned at (some-pair (suc r) main)) ends begins
+      (comes-into-P (w .G) (maker events i) (begun events r) (pairsBefore r) (in-order r open-at-r) (rw returned at (some-pair (suc r) (pairsBefore (suc r)) (bags-are-runs (suc r) main) main)) ends begins
       (rw returned at next))
 
   -- and so it is until the procedure syncs or returns.
@@ -237,28 +253,28 @@ module _ (events : ℕ → Act) where
   witness-in-P (suc j) i main w = go (witness-in-P j i before) (last-or-before (w .r) j (w .r<j))
     where
       before : mainOpen events j ≡ true
-      before = main-open-before events j (suc j) (omega arith) main
+      before = main-was-open events j main
 
       go : ((w : Parallel events i j) → InP (w .G) (maker events i) (pairsBefore j) (begun events j)) → (w .r ≡ j) ⊎ (w .r < j)
           → InP (w .G) (maker events i) (pairsBefore (suc j)) (begun events (suc j))
       go old (inl now) = rw now at (at-the-return i (suc j) w (rw now main))
       go old (inr earlier) =
           stays-in-P (events j) (w .G) (maker events i) (begun events j) (pairsBefore j)
-          (λ e q. w .no-sync-of-G j earlier (omega arith) e (sym (top-is-maker j) ∙ q))
-          (λ e q. w .no-return-of-G j earlier (omega arith) e (sym (top-is-maker j) ∙ q)) (in-order j before) (old (serves-earlier events i (suc j) i j w (w .s<i) (w .i<r) earlier (omega arith)))
+          (λ e q. w .no-sync-of-G j earlier (omega arith) e (sym (top-is-maker j before) ∙ q))
+          (λ e q. w .no-return-of-G j earlier (omega arith) e (sym (top-is-maker j before) ∙ q)) (in-order j before) (old (serves-earlier events i (suc j) i j w (w .s<i) (w .i<r) earlier (omega arith)))
 
   -- The body of a procedure that returns: an event in it is parallel with the event after the return.
   witness-of-body : (G i j : ℕ) → i < j → mainOpen events (suc j) ≡ true → events j ≡ return → G < top (pairsBefore j) → top (pairsBefore j) ≤ maker events i
       → top (pairsBefore (suc j)) ≡ G → (w : Parallel events i (suc j)) × (w .G ≡ G)
   witness-of-body G i j h main returned some body next =
-      let before = main-open-before events j (suc j) (omega arith) main in
-      let begins = started events j (maker events j) (omega (arith, top-is-maker j)) (maker-begun events j before) in
+      let before = main-was-open events j main in
+      let begins = started events j (maker events j) (omega (arith, top-is-maker j before)) (maker-begun events j before) in
       let s = begins .0 in
       let matching : MatchingReturn events s j = record { spawns = begins .2; returns = returned; made-by-started = sym (begins .3) } in (
         record {
           s = s;
           G = G;
-          made-by-G = sym (top-at-return s j matching) ∙ next;
+          made-by-G = sym (top-at-return s j main matching) ∙ next;
           r = j;
           matching = matching;
           s<i =
@@ -266,7 +282,7 @@ module _ (events : ℕ → Act) where
                 | yes after ↦ after
                 | no late ↦
                     let old = maker-begun-later i s (omega arith) (main-open-before events s j (omega (arith, begins .1)) before) in
-                    absurd (omega (arith, top-is-maker j, begins .3))
+                    absurd (omega (arith, top-is-maker j before, begins .3))
               ];
           i<r = h;
           r<j = omega arith;
@@ -284,7 +300,7 @@ module _ (events : ℕ → Act) where
   in-P-witness (suc j) i G h going main o = go (last-or-before i j h) (λ m. in-P-witness j i G m going before)
     where
       before : mainOpen events j ≡ true
-      before = main-open-before events j (suc j) (omega arith) main
+      before = main-was-open events j main
 
       goes-on : i < j → (InP G (maker events i) (pairsBefore j) (begun events j) → (w : Parallel events i j) × (w .G ≡ G))
           → (InP G (maker events i) (pairsBefore j) (begun events j) × (events j ≡ sync → top (pairsBefore j) ≢ G) × (events j ≡ return → top (pairsBefore j) ≢ G))
@@ -292,15 +308,15 @@ module _ (events : ℕ → Act) where
           → (w : Parallel events i (suc j)) × (w .G ≡ G)
       goes-on m old (inl (was, no-sync, no-return)) =
           let (w, by-G) = old was in
-          (longer i j w (λ e q. no-sync e (top-is-maker j ∙ q ∙ by-G)) (λ e q. no-return e (top-is-maker j ∙ q ∙ by-G)), by-G)
+          (longer i j w (λ e q. no-sync e (top-is-maker j before ∙ q ∙ by-G)) (λ e q. no-return e (top-is-maker j before ∙ q ∙ by-G)), by-G)
       goes-on m old (inr (returned, some, body, next)) = witness-of-body G i j m main returned some body next
 
       go : (i ≡ j) ⊎ (i < j) → (i < j → InP G (maker events i) (pairsBefore j) (begun events j) → (w : Parallel events i j) × (w .G ≡ G))
           → (w : Parallel events i (suc j)) × (w .G ≡ G)
       go (inl now) old =
           absurd
-          (top-not-in-P (events j) G (begun events j) (pairsBefore j) (rw now at going) (in-order j before) (some-pair j before)
-          (rw (top-is-maker j) (rw now at o)))
+          (top-not-in-P (events j) G (begun events j) (pairsBefore j) (rw now at going) (in-order j before) (some-pair j (pairsBefore j) (bags-are-runs j before) before)
+          (rw (top-is-maker j before) (rw now at o)))
       go (inr earlier) old =
           let begins = maker-begun-later i j (omega arith) before in
           goes-on earlier (old earlier) (was-or-comes (events j) G (maker events i) (begun events j) (pairsBefore j) (in-order j before) begins o)

@@ -1,5 +1,5 @@
 -- 01's small traces with parallelism and Figure 1 of 002, evaluated: antt computes each line from the definitions. Of the events only spawn, return and
--- sync are told apart; an access, a lock and an unlock are `other`. Assumes nothing.
+-- sync are told apart; an access, a lock and an unlock are `other`. Then what pieces hold, and pieces that break a contract. Assumes nothing.
 use Prim.Native.Nat.{ℕ}
 use mathlib.Core.Path.{_≡_, refl, sym, ap}
 use mathlib.Core.Logic.{_≢_}
@@ -11,10 +11,10 @@ use Rattle.bags.specs.declared.ask.Answer.{Answer}
 use Rattle.bags.specs.declared.ask.Answer.the-variants.{InSeries, InParallel, InNoBag}
 use Rattle.bags.specs.declared.ask.Pairs.{Pairs}
 use Rattle.bags.specs.declared.Spawned.the-variants.{Begun, Full}
-use Rattle.bags.specs.Parallel.{Act, spawn, return, sync, other, member, begunAfter, opensAfter, begun, opens, mainOpen, maker, Parallel}
+use Rattle.bags.specs.Parallel.{Act, spawn, return, sync, other, member, begunAfter, opensAfter, begun, opens, mainOpen, maker, Parallel, Precedes}
 use Rattle.bags.specs.Bags.{bagsOfNew, synced, handed, bagsAfter, bags, inSBag, inPBag, bagsSayParallel, inSomeBag}
 use Rattle.bags.specs.Runs.{numbersFrom, run, asBags, pairsIn, bagsIn}
-use Rattle.bags.specs.Ask.{asked}
+use Rattle.bags.specs.Ask.{answerFor}
 use Rattle.bags.specs.Steps.{runner, Begins, Carries, spawned, pushed}
 use Rattle.bags.proofs.Laws.{bags-agree}
 
@@ -37,7 +37,7 @@ pub record Row : Type 0 where
   pub accesses : List ℕ
   pub parallel : List (ℕ × ℕ)
 
--- Figure 1 of 002: main writes; three procedures are spawned and update, two lock events, a read and a write or more each; a sync; main reads.
+-- Figure 1 of 002: main writes; three procedures are spawned, and each takes its locks, reads, writes and releases; a sync; main reads.
 abbrev pub figure1 : List Act
 figure1 =
     other ∷
@@ -45,6 +45,9 @@ figure1 =
     spawn ∷ other ∷ other ∷ other ∷ other ∷ return ∷
     spawn ∷ other ∷ other ∷ other ∷ other ∷ return ∷
     sync ∷ other ∷ return ∷ []
+
+abbrev pub returned-twice : List Act
+returned-twice = spawn ∷ spawn ∷ other ∷ return ∷ return ∷ sync ∷ other ∷ return ∷ []
 
 abbrev pub table : List Row
 table =
@@ -90,6 +93,12 @@ table =
       events = spawn ∷ other ∷ return ∷ spawn ∷ sync ∷ other ∷ return ∷ return ∷ [];
       accesses = 1 ∷ 5 ∷ [];
       parallel = (1, 5) ∷ [];
+    } ∷
+    -- 2 is spawned by 1 and both return: 1's return carries a sync, and then main's sync comes before 6
+    record {
+      events = returned-twice;
+      accesses = 2 ∷ 6 ∷ [];
+      parallel = [];
     } ∷ []
 
 pub all-as-known : map (λ (row : Row). parallelPairs (eventsOf (row .events)) (row .accesses)) table ≡ map (λ (row : Row). row .parallel) table
@@ -115,19 +124,24 @@ spawned-write = record {
   no-return-of-G = λ k from to. absurd (omega arith);
 }
 
--- And on Figure 1, by the theorem that the SP-bags agree with it: the race of events 12 and 17, and the sync between 12 and main's read.
+-- And by the theorem that the SP-bags agree with it: in Figure 1 the race of events 12 and 17, and the sync between 12 and main's read; and that what 1
+-- spawned is not parallel with what follows main's sync, though 1 itself has made no sync.
 pub figure1-parallel : Parallel (eventsOf figure1) 12 17
 unfolding eventsOf member begunAfter opensAfter begun opens mainOpen maker headD bagsOfNew synced handed bagsAfter bags inPBag bagsSayParallel
 figure1-parallel = bags-agree (eventsOf figure1) 12 17 (omega arith) other-no-return refl .1 refl
 
-pub figure1-synced : Parallel (eventsOf figure1) 12 22 → ⊥
+pub figure1-synced : Precedes (eventsOf figure1) 12 22
 unfolding eventsOf member begunAfter opensAfter begun opens mainOpen maker headD bagsOfNew synced handed bagsAfter bags inPBag bagsSayParallel
 figure1-synced w = true≢false (sym (bags-agree (eventsOf figure1) 12 22 (omega arith) other-no-return refl .0 w))
+
+pub returned-and-synced : Precedes (eventsOf returned-twice) 2 6
+unfolding eventsOf member begunAfter opensAfter begun opens mainOpen maker headD bagsOfNew synced handed bagsAfter bags inPBag bagsSayParallel
+returned-and-synced w = true≢false (sym (bags-agree (eventsOf returned-twice) 2 6 (omega arith) other-no-return refl .0 w))
 
 -- ---- Pieces -----------------------------------------------------------------------------------------------------------------------------------
 
 abbrev answers : List ℕ → List ℕ → Pairs → List ℕ → List Answer
-answers starts joins pairs = map (λ (p : ℕ). asked p (bagsIn starts joins pairs))
+answers starts joins pairs = map (λ (p : ℕ). answerFor p (bagsIn starts joins pairs))
 
 -- Main has spawned 1, which has spawned 2 and 3; 2 has returned, and 3 runs. Then 3 has returned too and 1 has synced.
 pub pieces-as-known :
@@ -148,41 +162,47 @@ pub pieces-as-known :
     × (spawned (record { count = 2; begun = 4096 }) ≡ Full)
     × (pushed (record { count = 2; begun = 4095 }) 7 (0 ∷ 1 ∷ 3 ∷ []) ≡ 0 ∷ 1 ∷ 7 ∷ [])
     × (pushed (record { count = 2; begun = 4096 }) 7 (0 ∷ 1 ∷ 3 ∷ []) ≡ 0 ∷ 1 ∷ 3 ∷ [])
-unfolding member inSBag inPBag numbersFrom run asBags pairsIn bagsIn asked inSomeBag runner headD spawned pushed
+unfolding member inSBag inPBag numbersFrom run asBags pairsIn bagsIn answerFor inSomeBag runner headD spawned pushed
 pieces-as-known = (refl, refl, refl, refl, refl, refl, refl, refl, refl, refl, refl)
 
 -- ---- Pieces that break a contract -------------------------------------------------------------------------------------------------------------
 
--- 1 has returned to main, and 2 runs and syncs. A sync that also clears the children of the caller's parents, or main's instead of the caller's,
--- takes 1 out of main's P-bag.
-abbrev two-open : Pairs
-two-open = record { count = 2; begun = 3 }
+-- In each, `more` and `more′` stand for the rest of the two pieces, whatever it is.
+module _ (more more′ : List ℕ) where
+  -- 1 has returned to main, and 2 runs and syncs. A sync that also clears the children of the caller's parents, or main's instead of the caller's,
+  -- takes 1 out of main's P-bag.
+  abbrev two-open : Pairs
+  two-open = record { count = 2; begun = 3 }
 
-pub parents-cleared : Carries sync (0 ∷ 2 ∷ []) (1 ∷ 3 ∷ []) two-open (0 ∷ 2 ∷ []) (2 ∷ 3 ∷ []) two-open → ⊥
-unfolding member synced bagsAfter inPBag numbersFrom run asBags pairsIn bagsIn
-parents-cleared c = true≢false (sym (ap (inPBag 1) (c .bags)))
+  pub parents-cleared : Carries sync (0 ∷ 2 ∷ more) (1 ∷ 3 ∷ more′) two-open (0 ∷ 2 ∷ more) (2 ∷ 3 ∷ more′) two-open → ⊥
+  unfolding member synced bagsAfter inPBag numbersFrom run asBags pairsIn bagsIn
+  parents-cleared c = true≢false (sym (ap (inPBag 1) (c .bags)))
 
-pub mains-cleared : Carries sync (0 ∷ 2 ∷ []) (1 ∷ 3 ∷ []) two-open (0 ∷ 2 ∷ []) (3 ∷ 3 ∷ []) two-open → ⊥
-unfolding member synced bagsAfter inPBag numbersFrom run asBags pairsIn bagsIn
-mains-cleared c = true≢false (sym (ap (inPBag 1) (c .bags)))
+  pub mains-cleared : Carries sync (0 ∷ 2 ∷ more) (1 ∷ 3 ∷ more′) two-open (0 ∷ 2 ∷ more) (3 ∷ 3 ∷ more′) two-open → ⊥
+  unfolding member synced bagsAfter inPBag numbersFrom run asBags pairsIn bagsIn
+  mains-cleared c = true≢false (sym (ap (inPBag 1) (c .bags)))
 
--- 1 has spawned 2, which has returned to it, and returns itself. A return that carries no implied sync leaves 2 in no bag.
-pub no-implied-sync : Carries return (0 ∷ 1 ∷ []) (1 ∷ 2 ∷ []) two-open (0 ∷ 1 ∷ []) (1 ∷ 2 ∷ []) (record { count = 1; begun = 2 }) → ⊥
-unfolding member synced handed bagsAfter inPBag numbersFrom run asBags pairsIn bagsIn
-no-implied-sync c = true≢false (sym (ap (inPBag 2) (c .bags)))
+  -- 1 has spawned 2, which has returned to it, and returns itself. A return without the implied sync hands over the S-bag alone, and 2 is lost: the
+  -- pieces could say so only by one procedure less.
+  pub lost-at-return :
+      Carries return (0 ∷ 1 ∷ more) (1 ∷ 2 ∷ more′) two-open (0 ∷ 1 ∷ more) (1 ∷ 2 ∷ more′) (record { count = 1; begun = 2 }) → ⊥
+  unfolding member synced handed bagsAfter inPBag numbersFrom run asBags pairsIn bagsIn
+  lost-at-return c = true≢false (sym (ap (inPBag 2) (c .bags)))
 
--- Main spawns 1. A join that is not past its start puts 1 into its own P-bag.
-pub new-in-own-P-bag :
-    Carries spawn (0 ∷ 9 ∷ []) (1 ∷ 9 ∷ []) (record { count = 1; begun = 1 }) (0 ∷ 1 ∷ []) (1 ∷ 1 ∷ []) (record { count = 2; begun = 2 }) → ⊥
-unfolding member bagsOfNew bagsAfter inPBag numbersFrom run asBags pairsIn bagsIn
-new-in-own-P-bag c = true≢false (ap (inPBag 1) (c .bags))
+  -- 1 returns to main. If its pair stays, it runs on.
+  pub pair-kept :
+      Carries return (0 ∷ 1 ∷ more) (1 ∷ 2 ∷ more′) (record { count = 2; begun = 2 }) (0 ∷ 1 ∷ more) (1 ∷ 2 ∷ more′)
+      (record { count = 2; begun = 2 }) → ⊥
+  unfolding synced handed bagsAfter numbersFrom run asBags pairsIn bagsIn runner headD
+  pair-kept c = let z : _≡_ {A = ℕ} 1 0 = ap runner (c .bags) in omega arith
 
--- Main begins. A join that is not past its start puts main into its own P-bag.
-pub main-in-own-P-bag : Begins (9 ∷ []) (9 ∷ []) (0 ∷ []) (0 ∷ []) (record { count = 1; begun = 1 }) → ⊥
-unfolding member bagsOfNew inPBag numbersFrom run asBags pairsIn bagsIn
-main-in-own-P-bag b = true≢false (ap (inPBag 0) (b .bags))
+  -- Main spawns 1, or begins. A join that is not past the start puts the new procedure into its own P-bag.
+  pub new-in-own-P-bag :
+      Carries spawn (0 ∷ 9 ∷ more) (1 ∷ 9 ∷ more′) (record { count = 1; begun = 1 }) (0 ∷ 1 ∷ more) (1 ∷ 1 ∷ more′)
+      (record { count = 2; begun = 2 }) → ⊥
+  unfolding member bagsOfNew bagsAfter inPBag numbersFrom run asBags pairsIn bagsIn
+  new-in-own-P-bag c = true≢false (ap (inPBag 1) (c .bags))
 
--- 1 returns to main. If its pair stays, it runs on.
-pub pair-kept : Carries return (0 ∷ 1 ∷ []) (1 ∷ 2 ∷ []) (record { count = 2; begun = 2 }) (0 ∷ 1 ∷ []) (1 ∷ 2 ∷ []) (record { count = 2; begun = 2 }) → ⊥
-unfolding synced handed bagsAfter numbersFrom run asBags pairsIn bagsIn runner headD
-pair-kept c = let z : _≡_ {A = ℕ} 1 0 = ap runner (c .bags) in omega arith
+  pub main-in-own-P-bag : Begins (9 ∷ more) (9 ∷ more′) (0 ∷ more) (0 ∷ more′) (record { count = 1; begun = 1 }) → ⊥
+  unfolding member bagsOfNew inPBag numbersFrom run asBags pairsIn bagsIn
+  main-in-own-P-bag b = true≢false (ap (inPBag 0) (b .bags))

@@ -1,10 +1,10 @@
--- The theorems of specs/Theorems.antt, and what the layers above need to bring the pieces through a trace. They cite what stands here and nothing else
--- of this crate's proofs. Assumes nothing.
-use Prim.Native.Nat.{ℕ, zero, suc, _<_, _≤_}
+-- The theorems of specs/Theorems.antt and specs/Holds.antt, and a few consequences for the layers above, which cite what stands here and nothing else of
+-- this crate's proofs. Assumes nothing.
+use Prim.Native.Nat.{ℕ, suc, _<_}
 use mathlib.Core.Path.{_≡_, refl, sym, ap, ap₂, _∙_}
 use mathlib.Core.Logic.{_≢_, _↔_, Iff·trans, Iff·symm}
-use mathlib.Core.Bool.{Bool, true, false, cond, not, _||_, or-true, true≢false}
-use mathlib.Core.List.{List, [], _∷_, headD, map}
+use mathlib.Core.Bool.{Bool, true, false, cond, not, or-true, not-or-self, true≢false}
+use mathlib.Core.List.{List, _∷_, headD, map}
 use native.Mathlib.Decide.{decLt}
 use native.Mathlib.Omega.{arith}
 use lib.Dec.{eqb}
@@ -13,11 +13,12 @@ use borrow.Author.Tests.{lt-ltb, ltb-true}
 use Rattle.bags.specs.declared.ask.Answer.the-variants.{InSeries, InParallel, InNoBag}
 use Rattle.bags.specs.declared.ask.Pairs.{Pairs}
 use Rattle.bags.specs.Parallel.{Act, spawn, return, sync, other, member, begunAfter, opensAfter, begun, opens, mainOpen, maker}
-use Rattle.bags.specs.Bags.{Bags, bagsOfNew, synced, handed, bagsAfter, bags, inPBag, bagsSayParallel, inSomeBag}
+use Rattle.bags.specs.Bags.{Bags, bagsAfter, bags, inPBag, bagsSayParallel, inSomeBag}
 use Rattle.bags.specs.Runs.{bagsIn, Room}
-use Rattle.bags.specs.Ask.{asked}
-use Rattle.bags.specs.Steps.{runner, Begins, Carries}
-use Rattle.bags.specs.Theorems.{BagsAgree, InOneBag, InSOrP, NobodyElse, BagsOfOpen, ReturnsOnce, HandsBack, TwoLaws, Holds, AskAgrees}
+use Rattle.bags.specs.Ask.{answerFor}
+use Rattle.bags.specs.Steps.{runner}
+use Rattle.bags.specs.Theorems.{BagsAgree, InOneBag, InSOrP, NobodyElse, MakerInSomeBag, ReturnsOnce, HandsBack, TwoLaws}
+use Rattle.bags.specs.Holds.{Holds, HoldsFirst, HoldsNext, HoldsOther, AskAgrees}
 use Rattle.bags.proofs.Stack.{running, never-again, stack-back}
 use Rattle.bags.proofs.Runs as runs
 use Rattle.bags.proofs.Pieces.{main-owns, owners-counted}
@@ -29,6 +30,8 @@ pub use Rattle.bags.proofs.TwoLaws.{lemma-1, lemma-2}
 -- Main was open before if it is open now, and whoever makes an event has begun then and later.
 pub use Rattle.bags.proofs.Stack.{main-open-before}
 pub use Rattle.bags.proofs.Agreement.{maker-begun-later}
+-- The bags are those of the open procedures.
+pub use Rattle.bags.proofs.Agreement.{bags-of-open}
 
 -- ---- The SP-bags and the definition -----------------------------------------------------------------------------------------------------------
 
@@ -47,33 +50,10 @@ nobody-else events k p main h =
     rw (bags-are-runs events k main)
     (ap (λ (u : ℕ × Bool × Bool). u .0) (runs.in-none-above p (begun events k) (pairsBefore events k) (in-order events k main) h))
 
--- What an event makes of the bags' owners is what it makes of the open procedures.
-owners-after : (act : Act) (n : ℕ) (bs : List Bags)
-    → map (λ (b : Bags). b .owner) (bagsAfter act n bs) ≡ opensAfter act n (map (λ (b : Bags). b .owner) bs)
-unfolding bagsAfter opensAfter bagsOfNew synced handed
-owners-after spawn n bs = refl
-owners-after return n [] = refl
-owners-after return n (c ∷ []) = refl
-owners-after return n (c ∷ b ∷ bs) = refl
-owners-after sync n [] = refl
-owners-after sync n (b ∷ bs) = refl
-owners-after other n bs = refl
-
-pub bags-of-open : (events : ℕ → Act) → BagsOfOpen events
-unfolding bags opens bagsOfNew
-bags-of-open events zero = refl
-bags-of-open events (suc k) =
-    owners-after (events k) (begun events k) (bags events k) ∙ ap (opensAfter (events k) (begun events k)) (bags-of-open events k)
-
--- So the maker of an event is in a bag from then on, until main returns: code 12 has no case.
-pub maker-in-some-bag : (events : ℕ → Act) (i k : ℕ) → i ≤ k → mainOpen events k ≡ true → inSomeBag (maker events i) (bags events k) ≡ true
+pub maker-in-some-bag : (events : ℕ → Act) → MakerInSomeBag events
 unfolding inSomeBag
 maker-in-some-bag events i k h main =
-    rw (in-S-or-P events k (maker events i) main (maker-begun-later events i k h main)) (one-of-two (inPBag (maker events i) (bags events k)))
-  where
-    one-of-two : (b : Bool) → (not b || b) ≡ true
-    one-of-two true = refl
-    one-of-two false = refl
+    rw (in-S-or-P events k (maker events i) main (maker-begun-later events i k h main)) (not-or-self (inPBag (maker events i) (bags events k)))
 
 -- ---- Returns ----------------------------------------------------------------------------------------------------------------------------------
 
@@ -119,9 +99,7 @@ main-stays-open events k main going = after (events k) going
     after sync e = main
     after other e = main
 
--- Once main has begun the pieces hold its bags,
-pub holds-first : (events : ℕ → Act) (starts joins starts′ joins′ : List ℕ) (pairs : Pairs) → Begins starts joins starts′ joins′ pairs
-    → Holds events 0 starts′ joins′ pairs
+pub holds-first : (events : ℕ → Act) → HoldsFirst events
 unfolding begun bags mainOpen member opens
 holds-first events starts joins starts′ joins′ pairs b = record {
   main-told = sym (lt-ltb _ _ (b .room-after .main-open));
@@ -130,9 +108,7 @@ holds-first events starts joins starts′ joins′ pairs b = record {
   bags-held = b .bags;
 }
 
--- and after each event those that it leaves.
-pub holds-next : (events : ℕ → Act) (k : ℕ) (act : Act) (starts joins starts′ joins′ : List ℕ) (pairs pairs′ : Pairs) → events k ≡ act
-    → Holds events k starts joins pairs → Carries act starts joins pairs starts′ joins′ pairs′ → Holds events (suc k) starts′ joins′ pairs′
+pub holds-next : (events : ℕ → Act) → HoldsNext events
 unfolding begun bags mainOpen bagsIn
 holds-next events k act starts joins starts′ joins′ pairs pairs′ e now goes =
     let held : bagsIn starts′ joins′ pairs′ ≡ bags events (suc k) =
@@ -146,9 +122,7 @@ holds-next events k act starts joins starts′ joins′ pairs pairs′ e now goe
       bags-held = held;
     }
 
--- An event that is no spawn, return or sync leaves them as they are.
-pub holds-other : (events : ℕ → Act) (k : ℕ) (starts joins : List ℕ) (pairs : Pairs) → events k ≡ other → Holds events k starts joins pairs
-    → Holds events (suc k) starts joins pairs
+pub holds-other : (events : ℕ → Act) → HoldsOther events
 unfolding begunAfter bagsAfter
 holds-other events k starts joins pairs e now =
     holds-next events k other starts joins starts joins pairs pairs e now
@@ -198,8 +172,8 @@ says-series : (P : Bool) → (cond P InParallel (cond (not P) InSeries InNoBag) 
 says-series true = (λ e yes. let z : _≡_ {A = ℕ} 0 1 = cc in omega arith, λ none. absurd (none refl))
 says-series false = (λ e yes. true≢false (sym yes), λ none. refl)
 
-pub ask-agrees : AskAgrees
-unfolding asked bagsSayParallel
+pub ask-agrees : (events : ℕ → Act) → AskAgrees events
+unfolding answerFor bagsSayParallel
 ask-agrees events i k starts joins pairs now main h going =
     let agree = bags-agree events i k h going main in
     let begins = maker-begun-later events i k (omega arith) main in

@@ -3,7 +3,7 @@
 use Prim.Native.Nat.{ℕ, zero, suc, _+_, _-_, _≤_, _<_}
 use mathlib.Core.Path.{_≡_, refl, sym, ap, ap₂, _∙_}
 use mathlib.Core.Logic.{_≢_}
-use mathlib.Core.Bool.{Bool, true, false, cond, not, _&&_, _||_, and-true, or-true, or-false}
+use mathlib.Core.Bool.{Bool, true, false, cond, not, _&&_, _||_, and-true, or-true, or-false, not-or-self}
 use mathlib.Core.List.{List, [], _∷_, headD, map}
 use native.Mathlib.Omega.{arith}
 use native.Mathlib.Decide.{decLt}
@@ -19,7 +19,8 @@ use Rattle.bags.specs.declared.Spawned.the-variants.{Begun, Full}
 use Rattle.bags.specs.Parallel.{Act, member, spawn, return, sync, begunAfter}
 use Rattle.bags.specs.Bags.{Bags, bagsOfNew, inPBag, inSomeBag}
 use Rattle.bags.specs.Runs.{Pair, numbersFrom, run, asBags, InOrder, pairsIn, pieceSize, bagsIn, Room}
-use Rattle.bags.specs.Ask.{asked, saysParallel, refusalOf, Found}
+use Rattle.bags.specs.Ask.{answerFor, saysParallel, codeOf}
+use Rattle.bags.specs.Search.{Found}
 use Rattle.bags.specs.Steps.{runner, RestKept, Begins, Carries, mostBegun, spawned, pushed, AfterSpawn}
 use Rattle.bags.specs.Steps as steps
 use Rattle.bags.proofs.Runs.{joined, pairsAfter, bags-after, in-order-after, between-under, member-run, in-none-above, in-S-or-P}
@@ -164,20 +165,20 @@ spawns starts joins pairs h few =
 abbrev pub Spawns : List ℕ → List ℕ → Pairs → List ℕ → List ℕ → Spawned → Type 0
 Spawns starts joins pairs starts′ joins′ answer =
     (answer ≡ spawned pairs)
-    × ((steps.refusalOf answer ≡ cond (ltb (pairs .begun) mostBegun) 0 11)
+    × ((steps.codeOf answer ≡ cond (ltb (pairs .begun) mostBegun) 0 11)
     × ((starts′ ≡ pushed pairs (pairs .begun) starts)
     × ((joins′ ≡ pushed pairs (pairs .begun + 1) joins) × AfterSpawn starts joins pairs starts′ joins′ answer)))
 
 -- The two answers.
-pub refused : (starts joins : List ℕ) (pairs : Pairs) → mostBegun ≤ pairs .begun → Spawns starts joins pairs starts joins Full
+pub spawn-refused : (starts joins : List ℕ) (pairs : Pairs) → mostBegun ≤ pairs .begun → Spawns starts joins pairs starts joins Full
 unfolding spawned pushed
-refused starts joins pairs many = rw (le-ltb _ _ many) (refl, (refl, (refl, (refl, (many, refl, refl)))))
+spawn-refused starts joins pairs many = rw (le-ltb _ _ many) (refl, (refl, (refl, (refl, (many, refl, refl)))))
 
-pub begun : (starts joins : List ℕ) (pairs : Pairs) → Room starts joins pairs → pairs .begun < mostBegun
+pub spawn-begins : (starts joins : List ℕ) (pairs : Pairs) → Room starts joins pairs → pairs .begun < mostBegun
     → Spawns starts joins pairs (set starts (pairs .count) (pairs .begun)) (set joins (pairs .count) (pairs .begun + 1))
     (Begun (record { count = pairs .count + 1; begun = pairs .begun + 1 }))
 unfolding spawned pushed
-begun starts joins pairs h few =
+spawn-begins starts joins pairs h few =
     rw (lt-ltb _ _ few)
     (refl, (refl, (refl, (refl, (few, rw (one-more (pairs .count), one-more (pairs .begun)) (spawns starts joins pairs h few))))))
 
@@ -294,18 +295,18 @@ in-joins starts joins pairs p at h f =
 abbrev pub Answers : List ℕ → List ℕ → Pairs → ℕ → Answer → Type 0
 Answers starts joins pairs p answer =
     let bs = bagsIn starts joins pairs in
-    (answer ≡ asked p bs) × ((saysParallel answer ≡ inPBag p bs) × (refusalOf answer ≡ cond (inSomeBag p bs) 0 12))
+    (answer ≡ answerFor p bs) × ((saysParallel answer ≡ inPBag p bs) × (codeOf answer ≡ cond (inSomeBag p bs) 0 12))
 
 -- The three answers.
 pub above-in-no-bag : (starts joins : List ℕ) (pairs : Pairs) (p : ℕ) → Room starts joins pairs → pairs .begun ≤ p → Answers starts joins pairs p InNoBag
-unfolding bagsIn asked inSomeBag
+unfolding bagsIn answerFor inSomeBag
 above-in-no-bag starts joins pairs p h above =
     let none = in-none-above p (pairs .begun) (pairsIn starts joins (pairs .count)) (h .in-order) above in
     rw (ap (λ (u : ℕ × Bool × Bool). u .2) none, ap (λ (u : ℕ × Bool × Bool). u .1) none) (refl, (refl, refl))
 
 found-answer : (starts joins : List ℕ) (pairs : Pairs) (p at : ℕ) → Room starts joins pairs → p < pairs .begun → Found starts (pairs .count - 1) p at
     → Answers starts joins pairs p (cond (leb (getD joins at 0) p) InParallel InSeries)
-unfolding bagsIn asked inSomeBag
+unfolding bagsIn answerFor inSomeBag
 found-answer starts joins pairs p at h below f =
     let yes-or-no = in-P-at starts joins (pairs .count) (pairs .begun) at p (h .in-order) (omega (arith, f .within, h .main-open)) (f .starts-below)
     below (λ l. f .next-above (omega arith)) in
@@ -313,7 +314,7 @@ found-answer starts joins pairs p at h below f =
   where
     either : (b : Bool)
         → (cond b InParallel InSeries ≡ cond b InParallel (cond (not b) InSeries InNoBag))
-        × ((saysParallel (cond b InParallel InSeries) ≡ b) × (refusalOf (cond b InParallel InSeries) ≡ cond (not b || b) 0 12))
+        × ((saysParallel (cond b InParallel InSeries) ≡ b) × (codeOf (cond b InParallel InSeries) ≡ cond (not b || b) 0 12))
     either true = (refl, (refl, refl))
     either false = (refl, (refl, refl))
 
@@ -332,12 +333,8 @@ in-some starts joins pairs p h =
     elim (decLt p (pairs .begun)) [
       | yes below ↦
           rw (lt-ltb _ _ below, in-S-or-P p (pairs .begun) (pairsIn starts joins (pairs .count)) (h .in-order) below)
-          (sym (one-of-two (inPBag p (asBags (pairsIn starts joins (pairs .count)) (pairs .begun)))))
+          (sym (not-or-self (inPBag p (asBags (pairsIn starts joins (pairs .count)) (pairs .begun)))))
       | no above ↦
           let none = in-none-above p (pairs .begun) (pairsIn starts joins (pairs .count)) (h .in-order) (omega arith) in
           rw (le-ltb p (pairs .begun) (omega arith)) (sym (ap (λ (u : ℕ × Bool × Bool). u .1 || u .2) none))
     ]
-  where
-    one-of-two : (b : Bool) → (not b || b) ≡ true
-    one-of-two true = refl
-    one-of-two false = refl

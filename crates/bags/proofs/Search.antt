@@ -5,7 +5,7 @@ use mathlib.Core.Path.{_≡_}
 use mathlib.Core.List.{List}
 use native.Mathlib.Omega.{arith}
 use lib.ListN.{getD}
-use Rattle.bags.specs.Ask.{Found, Bracketed}
+use Rattle.bags.specs.Search.{Found, Bracketed}
 
 -- ---- Steps down -------------------------------------------------------------------------------------------------------------------------------
 

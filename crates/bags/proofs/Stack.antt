@@ -22,7 +22,7 @@ from-on P i base step (suc k) h =
 -- ---- one stack
 
 -- The numbers fall from the top of the stack on, from below n.
-unfoldable pub Falling : ℕ → List ℕ → Type 0
+unfoldable Falling : ℕ → List ℕ → Type 0
 Falling n [] = Unit {0}
 Falling n (g ∷ gs) = (g < n) × Falling g gs
 
@@ -96,7 +96,7 @@ stays-after other n g gs xs rest q f = (xs, q)
 
 module _ (events : ℕ → Act) where
   -- Before each event the stack falls from the number of procedures begun.
-  pub opens-fall : (k : ℕ) → Falling (begun events k) (opens events k)
+  opens-fall : (k : ℕ) → Falling (begun events k) (opens events k)
   unfolding Falling begun opens
   opens-fall zero = (suc-le-suc zero-le, tt)
   opens-fall (suc k) = falls-after (events k) (begun events k) (opens events k) (opens-fall k)
@@ -128,6 +128,9 @@ module _ (events : ℕ → Act) where
       go : (b : Bool) → member 0 (opens events k) ≡ b → b ≡ true
       go true q = refl
       go false q = sym (closed-for-good 0 k j h (begun-positive k) q) ∙ m
+
+  pub main-was-open : (k : ℕ) → mainOpen events (suc k) ≡ true → mainOpen events k ≡ true
+  main-was-open k = main-open-before k (suc k) (omega arith)
 
   -- and then somebody runs,
   pub running : (k : ℕ) → mainOpen events k ≡ true → (gs : List ℕ) × (opens events k ≡ maker events k ∷ gs)

@@ -21,7 +21,7 @@ module _ (events : ℕ → Act) (i j i′ j′ : ℕ) (w : Parallel events i j) 
         no-return-of-G = no-return;
       }
 
-  -- Up to the event that it was made for it does not.
+  -- Up to the event that the witness was made for, its procedure does neither.
   unfoldable pub serves-earlier : w .s < i′ → i′ < w .r → w .r < j′ → j′ ≤ j → Parallel events i′ j′
   serves-earlier after-s before-r after-r no-later =
       serves after-s before-r after-r (λ k from to. w .no-sync-of-G k from (omega arith)) (λ k from to. w .no-return-of-G k from (omega arith))

@@ -1,5 +1,6 @@
 -- The SP-bags that 002 uses, as they are made from the events before: each open procedure has an S-bag and a P-bag of procedures. What spawn, sync and
--- return do to them, 002 takes over from the SP-bags algorithm, which 004 states in its section 3.1.
+-- return do to them, 002 takes over from the SP-bags algorithm; 004 states it in its section 3.1, for async and finish. There a return hands over both bags;
+-- with 01's implied sync the P-bag is empty then, so it is the same.
 use Prim.Native.Nat.{ℕ, zero, suc, _+_}
 use mathlib.Core.Bool.{Bool, false, cond, _||_}
 use mathlib.Core.List.{List, [], _∷_, _++_}
@@ -48,7 +49,8 @@ unfoldable pub inPBag : ℕ → List Bags → Bool
 inPBag p [] = false
 inPBag p (b ∷ bs) = member p (b .P) || inPBag p bs
 
--- In a P-bag is who is parallel with the present event j, of the makers of earlier events i; that this is the definition's yes or no is a theorem.
+-- The bags' yes or no: event i is called parallel with a later event j if its maker is in a P-bag before j. That the definition says the same is the
+-- theorem `bags-agree`.
 unfoldable pub bagsSayParallel : (ℕ → Act) → ℕ → ℕ → Bool
 bagsSayParallel events i j = inPBag (maker events i) (bags events j)
 

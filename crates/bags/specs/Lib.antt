@@ -1,7 +1,9 @@
 pub mod Parallel
 pub mod Bags
 pub mod YesOrNo
+pub mod Theorems
 pub mod Runs
 pub mod Ask
+pub mod Search
 pub mod Steps
-pub mod Theorems
+pub mod Holds

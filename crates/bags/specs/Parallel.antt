@@ -70,6 +70,6 @@ module _ (events : ℕ → Act) where
     pub no-sync-of-G : NoneBetween sync G r j
     pub no-return-of-G : NoneBetween return G r j
 
-  -- Otherwise i precedes j.
+  -- Otherwise i, which comes before j, precedes it.
   abbrev pub Precedes : ℕ → ℕ → Type 0
   Precedes i j = Parallel i j → ⊥

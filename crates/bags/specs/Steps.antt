@@ -36,18 +36,20 @@ pub record Carries (act : Act) (starts joins : List ℕ) (pairs : Pairs) (starts
   pub starts-rest : RestKept starts starts′
   pub joins-rest : RestKept joins joins′
 
--- A spawn is refused where 4,096 procedures have begun, main counted: the pairs with one more, or that refusal, whose number is 11; and a number put
--- on top of a piece, or the piece as it was.
+-- A spawn is refused where so many procedures have begun, main counted.
 abbrev pub mostBegun : ℕ
 mostBegun = 4096
 
+-- What it gives: the pairs with one more, or the refusal.
 unfoldable pub spawned : Pairs → Spawned
 spawned pairs = cond (ltb (pairs .begun) mostBegun) (Begun (record { count = pairs .count + 1; begun = pairs .begun + 1 })) Full
 
-abbrev pub refusalOf : Spawned → ℕ
-refusalOf (Begun pairs) = 0
-refusalOf Full = 11
+-- The code of each, 0 where nothing is refused.
+abbrev pub codeOf : Spawned → ℕ
+codeOf (Begun pairs) = 0
+codeOf Full = 11
 
+-- What it leaves of a piece: with a number put on top, or as it was.
 unfoldable pub pushed : Pairs → ℕ → List ℕ → List ℕ
 pushed pairs number piece = cond (ltb (pairs .begun) mostBegun) (set piece (pairs .count) number) piece
 

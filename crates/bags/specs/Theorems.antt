@@ -1,27 +1,22 @@
--- What is proved of procedures, parallelism and bags, for every sequence of events. Each statement has its proof in proofs/Laws.antt, under the name in
+-- What is proved of procedures, parallelism and bags, for every sequence of events. Each statement can be cited from proofs/Laws.antt, under the name in
 -- brackets.
 use Prim.Native.Nat.{ℕ, suc, _≤_, _<_}
 use mathlib.Core.Path.{_≡_}
 use mathlib.Core.Logic.{_≢_, _↔_}
 use mathlib.Core.Bool.{true, not}
-use mathlib.Core.List.{List, map}
-use lib.Dec.{ltb}
-use Rattle.bags.specs.declared.ask.Pairs.{Pairs}
-use Rattle.bags.specs.declared.ask.Answer.the-variants.{InSeries, InParallel}
+use mathlib.Core.List.{map}
 use Rattle.bags.specs.Parallel.{Act, return, begun, opens, mainOpen, maker, MatchingReturn, Parallel, Precedes}
-use Rattle.bags.specs.Bags.{Bags, bags, inSBag, inPBag, bagsSayParallel, timesInBags}
+use Rattle.bags.specs.Bags.{Bags, bags, inSBag, inPBag, bagsSayParallel, inSomeBag, timesInBags}
 use Rattle.bags.specs.YesOrNo.{YesOrNo}
-use Rattle.bags.specs.Runs.{bagsIn, Room}
-use Rattle.bags.specs.Ask.{asked}
 
 module _ (events : ℕ → Act) where
   -- The SP-bags give the same yes or no as the definition, for every earlier event i that is no return (an access never is) and the present
-  -- event j [bags-agree].
+  -- event j, main being open [bags-agree].
   abbrev pub BagsAgree : Type 0
   BagsAgree = (i j : ℕ) → i < j → events i ≢ return → mainOpen events j ≡ true → Parallel events i j ↔ (bagsSayParallel events i j ≡ true)
 
   -- While main is open every procedure begun is in exactly one bag [in-one-bag], which is an S-bag or a P-bag [in-S-or-P], nobody else is in any
-  -- [nobody-else], and the bags are those of the procedures that are open [bags-of-open].
+  -- [nobody-else]; and the bags are those of the procedures that are open [bags-of-open].
   abbrev pub InOneBag : Type 0
   InOneBag = (k p : ℕ) → mainOpen events k ≡ true → p < begun events k → timesInBags p (bags events k) ≡ 1
 
@@ -34,8 +29,12 @@ module _ (events : ℕ → Act) where
   abbrev pub BagsOfOpen : Type 0
   BagsOfOpen = (k : ℕ) → map (λ (b : Bags). b .owner) (bags events k) ≡ opens events k
 
-  -- Main being open, a procedure returns at most once [returns-once], and its return hands control back to the one that spawned it: the open
-  -- procedures are again those at the spawn [hands-back].
+  -- So the maker of an event is in a bag from then on, while main is open: code 12 has no case [maker-in-some-bag].
+  abbrev pub MakerInSomeBag : Type 0
+  MakerInSomeBag = (i k : ℕ) → i ≤ k → mainOpen events k ≡ true → inSomeBag (maker events i) (bags events k) ≡ true
+
+  -- A procedure returns at most once, main being open [returns-once]; its return hands control back to the one that spawned it: the open procedures
+  -- are again those at the spawn [hands-back].
   abbrev pub ReturnsOnce : Type 0
   ReturnsOnce =
       (r r′ : ℕ) → mainOpen events r ≡ true → mainOpen events r′ ≡ true → events r ≡ return → events r′ ≡ return
@@ -44,15 +43,15 @@ module _ (events : ℕ → Act) where
   abbrev pub HandsBack : Type 0
   HandsBack = (s r : ℕ) → MatchingReturn events s r → (opens events (suc r) ≡ opens events s) × (maker events (suc r) ≡ maker events s)
 
-  -- Lemma 1 of 002: a precedes e, and is parallel with j; then e is parallel with j. The middle event is no return [lemma-1].
+  -- The two laws of YesOrNo.antt for the definition itself. In the first the middle event is no return [lemma-1], in the second main is open
+  -- [lemma-2].
   abbrev pub Lemma1 : Type 0
   Lemma1 = (a e j : ℕ) → a < e → e < j → events e ≢ return → Precedes events a e → Parallel events a j → Parallel events e j
 
-  -- Lemma 2 of 002: a is parallel with e, and e with j; then a is parallel with j. Main is open [lemma-2].
   abbrev pub Lemma2 : Type 0
   Lemma2 = (a e j : ℕ) → mainOpen events j ≡ true → a < e → e < j → Parallel events a e → Parallel events e j → Parallel events a j
 
-  -- So the bags' yes or no obeys both, asked of events that are no return, made while main is open [two-laws].
+  -- So the bags' yes or no obeys them, asked of events that are no return, made while main is open [two-laws].
   abbrev pub Askable : ℕ → Type 0
   Askable k = (mainOpen events k ≡ true) × (events k ≢ return)
 
@@ -69,19 +68,3 @@ pub record SameAt (j : ℕ) (events events′ : ℕ → Act) : Type 0 where
 
 abbrev pub LaterEvents : Type 0
 LaterEvents = (j : ℕ) (events events′ : ℕ → Act) → ((k : ℕ) → k < j → events k ≡ events′ k) → SameAt j events events′
-
--- The pieces hold the bags as they stand before event k, and tell whether main is open.
-pub record Holds (events : ℕ → Act) (k : ℕ) (starts joins : List ℕ) (pairs : Pairs) : Type 0 where
-  pub main-told : mainOpen events k ≡ ltb 0 (pairs .count)
-  pub room : 0 < pairs .count → Room starts joins pairs
-  pub begun-held : pairs .begun ≡ begun events k
-  pub bags-held : bagsIn starts joins pairs ≡ bags events k
-
--- Then the answer of `ask` about the maker of an earlier event i that is no return is "in parallel" exactly if i and event k are parallel, and "in
--- series" exactly if i precedes it [ask-agrees].
-abbrev pub AskAgrees : Type 0
-AskAgrees =
-    (events : ℕ → Act) (i k : ℕ) (starts joins : List ℕ) (pairs : Pairs) → Holds events k starts joins pairs → mainOpen events k ≡ true
-    → i < k → events i ≢ return
-    → ((asked (maker events i) (bagsIn starts joins pairs) ≡ InParallel) ↔ Parallel events i k)
-    × ((asked (maker events i) (bagsIn starts joins pairs) ≡ InSeries) ↔ Precedes events i k)

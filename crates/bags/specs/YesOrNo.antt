@@ -1,4 +1,4 @@
--- A yes or no for "parallel", with the two laws of 002: all that the kept lists ever see of procedures.
+-- A yes or no for "parallel", with the two laws of 002: all that the kept lists are to know of parallelism.
 use Prim.Native.Nat.{ℕ, _<_}
 use mathlib.Core.Path.{_≡_}
 use mathlib.Core.Bool.{Bool, true, false}

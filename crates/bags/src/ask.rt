@@ -7,7 +7,8 @@ ghost use Prim.Native.Nat.{ℕ, _≤_, _<_};
 ghost use lib.ListN.{length, getD};
 ghost use lib.Dec.{ltb};
 ghost use Rattle.bags.specs.Runs.{pieceSize, bagsIn, Room};
-ghost use Rattle.bags.specs.Ask.{asked, saysParallel, refusalOf, Found, Bracketed};
+ghost use Rattle.bags.specs.Ask.{answerFor, saysParallel, codeOf};
+ghost use Rattle.bags.specs.Search.{Found, Bracketed};
 ghost use Rattle.bags.specs.Bags.{inPBag, inSomeBag};
 
 // The number of a procedure, from 0 for main. It names a spawned body, and no place in the trace.
@@ -36,9 +37,9 @@ impl Pairs {
     // Is this procedure in series or in parallel with what runs now, or in no bag?
     pub fn ask(self, starts: &[u32], joins: &[u32], procedure: ProcedureNumber) -> Answer
         requires { ⌜ Room (now starts) (now joins) self ⌝ }
-        ensures result { λ r. ⌜ r ≡ asked (procedure .0) (bagsIn (now (starts .entry)) (now (joins .entry)) self) ⌝ }
+        ensures result { λ r. ⌜ r ≡ answerFor (procedure .0) (bagsIn (now (starts .entry)) (now (joins .entry)) self) ⌝ }
         ensures yes_or_no { λ r. ⌜ saysParallel r ≡ inPBag (procedure .0) (bagsIn (now (starts .entry)) (now (joins .entry)) self) ⌝ }
-        ensures refusal { λ r. ⌜ refusalOf r ≡ cond (inSomeBag (procedure .0) (bagsIn (now (starts .entry)) (now (joins .entry)) self)) 0 12 ⌝ }
+        ensures code { λ r. ⌜ codeOf r ≡ cond (inSomeBag (procedure .0) (bagsIn (now (starts .entry)) (now (joins .entry)) self)) 0 12 ⌝ }
     {
         let p = procedure.0;
         if self.begun <= p {
@@ -61,7 +62,8 @@ impl Pairs {
     }
 }
 
-// The place of the last pair that starts at or below p, from `top` on downward. Mostly that is `top` itself, or close to it.
+// The place of the last pair that starts at or below p, sought from `top` on downward: it is expected to be `top` itself, or close
+// to it.
 fn place_of(starts: &[u32], top: usize, p: u32) -> usize
     requires { ⌜ top < length (now starts) ⌝ }
     requires { ⌜ top < pieceSize ⌝ }

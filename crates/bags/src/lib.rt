@@ -11,7 +11,7 @@ ghost use lib.ListN.{length, set, getD};
 ghost use lib.Dec.{ltb};
 ghost use Rattle.bags.specs.Parallel.{spawn, return, sync};
 ghost use Rattle.bags.specs.Runs.{pieceSize, bagsIn, Room};
-ghost use Rattle.bags.specs.Steps.{runner, Begins, Carries, mostBegun, spawned, refusalOf, pushed, AfterSpawn};
+ghost use Rattle.bags.specs.Steps.{runner, Begins, Carries, mostBegun, spawned, codeOf, pushed, AfterSpawn};
 
 pub mod ask;
 
@@ -45,7 +45,7 @@ pub fn begin(starts: &mut [u32], joins: &mut [u32]) -> Pairs
 pub fn spawn(pairs: Pairs, starts: &mut [u32], joins: &mut [u32]) -> Spawned
     requires { ⌜ Room (now starts) (now joins) pairs ⌝ }
     ensures result { λ r. ⌜ r ≡ spawned pairs ⌝ }
-    ensures refusal { λ r. ⌜ refusalOf r ≡ cond (ltb (pairs .begun) mostBegun) 0 11 ⌝ }
+    ensures code { λ r. ⌜ codeOf r ≡ cond (ltb (pairs .begun) mostBegun) 0 11 ⌝ }
     ensures starts { λ _. ⌜ now (starts .exit) ≡ pushed pairs (pairs .begun) (now (starts .entry)) ⌝ }
     ensures joins { λ _. ⌜ now (joins .exit) ≡ pushed pairs (pairs .begun + 1) (now (joins .entry)) ⌝ }
     ensures bags { λ r. ⌜ AfterSpawn (now (starts .entry)) (now (joins .entry)) pairs (now (starts .exit)) (now (joins .exit)) r ⌝ }

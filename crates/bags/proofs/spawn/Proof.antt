@@ -1,13 +1,13 @@
--- `spawn` stores the new procedure's pair above the others, or refuses and changes nothing: the laws `begun` and `refused` say what that means for
+-- `spawn` stores the new procedure's pair above the others, or refuses and changes nothing: the laws `spawn-begins` and `spawn-refused` say what that means for
 -- the bags. Its place lies within the pieces since there are no more pairs than procedures begun. Assumes nothing.
 use native.Mathlib.Omega.{arith}
 use borrow.Author.Needs.{needs}
-use Rattle.bags.proofs.Pieces.{Free, room-left, refused, begun}
+use Rattle.bags.proofs.Pieces.{Free, room-left, spawn-refused, spawn-begins}
 use Rattle.bags.proofs.spawn.Statement.{statement}
 use Rattle.bags.proofs.spawn.Tie as tie
 
 returns : tie.Need-returns
-returns c = refused _ _ _ (search needs)
+returns c = spawn-refused _ _ _ (search needs)
 
 -- The pair's place lies within the pieces.
 left : (c : tie.Else1) → Free (c .before .args .starts .now) (c .before .args .joins .now) (c .before .args .pairs)
@@ -41,7 +41,7 @@ same-length-2 : tie.Need-same-length-2
 same-length-2 c = search needs
 
 returns-2 : tie.Need-returns-2
-returns-2 c = begun (c .before .args .starts .now) (c .before .args .joins .now) (c .before .args .pairs) (c .before .pre) (c .if1 .left)
+returns-2 c = spawn-begins (c .before .args .starts .now) (c .before .args .joins .now) (c .before .args .pairs) (c .before .pre) (c .if1 .left)
 
 pub spawn-spec : {M : Type 1} → statement M
 spawn-spec =

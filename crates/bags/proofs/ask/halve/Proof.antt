@@ -2,7 +2,7 @@
 use Prim.Native.Nat.{_-_}
 use native.Mathlib.Omega.{arith}
 use borrow.Author.Needs.{needs}
-use Rattle.bags.specs.Ask.{Bracketed}
+use Rattle.bags.specs.Search.{Bracketed}
 use Rattle.bags.proofs.Search.{upper-half, lower-half, one-left}
 use Rattle.bags.proofs.ask.halve.Statement.{statement}
 use Rattle.bags.proofs.ask.halve.Tie as tie
