@@ -200,6 +200,9 @@ module _ (events : ℕ → Act) where
   pub bags-are-runs : (k : ℕ) → mainOpen events k ≡ true → bags events k ≡ asBags (pairsBefore k) (begun events k)
   bags-are-runs k main = in-order-and-runs k main .1
 
+  pair-left : (k : ℕ) → mainOpen events k ≡ true → pairsBefore k ≢ []
+  pair-left k main = some-pair k (pairsBefore k) (bags-are-runs k main) main
+
   -- The last pair is the running procedure's.
   top-is-maker : (k : ℕ) → mainOpen events k ≡ true → top (pairsBefore k) ≡ maker events k
   unfolding top maker
@@ -243,7 +246,7 @@ module _ (events : ℕ → Act) where
       let begins = maker-begun-later i r (omega (arith, w .i<r)) open-at-r in
       let next = top-at-return s r main (w .matching) ∙ w .made-by-G in
       rw returned
-      (comes-into-P (w .G) (maker events i) (begun events r) (pairsBefore r) (in-order r open-at-r) (rw returned at (some-pair (suc r) (pairsBefore (suc r)) (bags-are-runs (suc r) main) main)) ends begins
+      (comes-into-P (w .G) (maker events i) (begun events r) (pairsBefore r) (in-order r open-at-r) (rw returned at (pair-left (suc r) main)) ends begins
       (rw returned at next))
 
   -- and so it is until the procedure syncs or returns.
@@ -261,7 +264,8 @@ module _ (events : ℕ → Act) where
       go old (inr earlier) =
           stays-in-P (events j) (w .G) (maker events i) (begun events j) (pairsBefore j)
           (λ e q. w .no-sync-of-G j earlier (omega arith) e (sym (top-is-maker j before) ∙ q))
-          (λ e q. w .no-return-of-G j earlier (omega arith) e (sym (top-is-maker j before) ∙ q)) (in-order j before) (old (serves-earlier events i (suc j) i j w (w .s<i) (w .i<r) earlier (omega arith)))
+          (λ e q. w .no-return-of-G j earlier (omega arith) e (sym (top-is-maker j before) ∙ q)) (in-order j before)
+          (old (serves-earlier events i (suc j) i j w (w .s<i) (w .i<r) earlier (omega arith)))
 
   -- The body of a procedure that returns: an event in it is parallel with the event after the return.
   witness-of-body : (G i j : ℕ) → i < j → mainOpen events (suc j) ≡ true → events j ≡ return → G < top (pairsBefore j) → top (pairsBefore j) ≤ maker events i
@@ -315,7 +319,7 @@ module _ (events : ℕ → Act) where
           → (w : Parallel events i (suc j)) × (w .G ≡ G)
       go (inl now) old =
           absurd
-          (top-not-in-P (events j) G (begun events j) (pairsBefore j) (rw now at going) (in-order j before) (some-pair j (pairsBefore j) (bags-are-runs j before) before)
+          (top-not-in-P (events j) G (begun events j) (pairsBefore j) (rw now at going) (in-order j before) (pair-left j before)
           (rw (top-is-maker j before) (rw now at o)))
       go (inr earlier) old =
           let begins = maker-begun-later i j (omega arith) before in

@@ -1,6 +1,6 @@
--- The SP-bags that 002 uses, as they are made from the events before: each open procedure has an S-bag and a P-bag of procedures. What spawn, sync and
--- return do to them, 002 takes over from the SP-bags algorithm; 004 states it in its section 3.1, for async and finish. There a return hands over both bags;
--- with 01's implied sync the P-bag is empty then, so it is the same.
+-- The SP-bags that 002 uses, as they are made from the events before: each open procedure has an S-bag and a P-bag of procedures. What spawn, sync
+-- and return do to them, 002 takes over from the SP-bags algorithm; 004 states it in its section 3.1, for async and finish. There a return hands over
+-- both bags; with 01's implied sync the P-bag is empty then, so it is the same.
 use Prim.Native.Nat.{ℕ, zero, suc, _+_}
 use mathlib.Core.Bool.{Bool, false, cond, _||_}
 use mathlib.Core.List.{List, [], _∷_, _++_}

@@ -6,6 +6,7 @@ use mathlib.Core.Bool.{Bool, false, _||_}
 use mathlib.Core.List.{List, [], _∷_, tail, headD}
 use lib.Dec.{eqb}
 
+-- What an event does, as far as it counts here.
 pub data Act : Type 0 where
   spawn return sync other : Act
 

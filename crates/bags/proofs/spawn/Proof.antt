@@ -1,5 +1,5 @@
--- `spawn` stores the new procedure's pair above the others, or refuses and changes nothing: the laws `spawn-begins` and `spawn-refused` say what that means for
--- the bags. Its place lies within the pieces since there are no more pairs than procedures begun. Assumes nothing.
+-- `spawn` stores the new procedure's pair above the others, or refuses and changes nothing: the laws `spawn-begins` and `spawn-refused` say what
+-- that means for the bags. Its place lies within the pieces since there are no more pairs than procedures begun. Assumes nothing.
 use native.Mathlib.Omega.{arith}
 use borrow.Author.Needs.{needs}
 use Rattle.bags.proofs.Pieces.{Free, room-left, spawn-refused, spawn-begins}
