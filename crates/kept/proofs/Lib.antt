@@ -1,0 +1,11 @@
+pub mod Lists
+pub mod Covering
+pub mod Linking
+pub mod Visits
+pub mod Sums
+pub mod Chains
+pub mod Laid
+pub mod Pruning
+pub mod Telling
+pub mod Accepting
+pub mod Examples

@@ -1,0 +1,226 @@
+-- Unlinking the dropped: the slots passed that stay, and those still ahead, make up the list all the while; the dropped ones passed stand before those
+-- freed earlier. Assumes nothing.
+use Prim.Native.Nat.{ℕ, zero, suc, _+_, _-_, _≤_, _<_}
+use mathlib.Core.Path.{_≡_, refl, sym, ap, _∙_, subst}
+use mathlib.Core.Bool.{Bool, true, false, cond, not}
+use mathlib.Core.List.{List, [], _∷_, _++_, append-assoc, append-nil}
+use native.Mathlib.Omega.{arith}
+use lib.ListN.{length, getD, set, drop, length-set, length-append, length-drop}
+use Rattle.kept.specs.declared.Slots.{Slots}
+use Rattle.kept.specs.Lists.{those}
+use Rattle.kept.specs.Pieces.{pieceSize, slotsFrom, slotsOf, slotsFreed, Chain, LaidOut}
+use Rattle.kept.specs.Access.{placeAt, freeing, linkTo}
+use Rattle.kept.specs.Parts.{headsLinked, linksLinked, howMany, Pruned}
+use Rattle.kept.proofs.Lists.{either-way}
+use Rattle.kept.proofs.Chains.{lastOf, chain-slots, chain-link, chain-rest, linked-length}
+use Rattle.kept.proofs.Laid.{place-same, place-twice, place-here, laid-few, laid-last, laid-detached, detached-links-rest, linked-heads-rest}
+
+-- ---- lists of which none is dropped
+
+module _ (drops : ℕ → Bool) where
+  abbrev stays : ℕ → Bool
+  stays s = not (drops s)
+
+  -- All of it stays, and nothing is freed.
+  pub none-dropped : (ss : List ℕ) → howMany drops ss ≡ 0 → those stays ss ≡ ss
+  unfolding those
+  none-dropped [] none = refl
+  none-dropped (s ∷ ss) none =
+      either-way (drops s) (λ e. absurd (omega (arith, rw e at none))) (λ e. rw e (ap (λ (t : List ℕ). s ∷ t) (none-dropped ss (rw e at none))))
+
+  pub none-freed : (ss freed : List ℕ) → howMany drops ss ≡ 0 → freeing drops ss freed ≡ freed
+  unfolding those freeing
+  none-freed [] freed none = refl
+  none-freed (s ∷ ss) freed none = either-way (drops s) (λ e. absurd (omega (arith, rw e at none))) (λ e. rw e (none-freed ss freed (rw e at none)))
+
+-- The last of a list with one put at its end.
+last-of-more : (ps : List ℕ) (s : ℕ) → lastOf (ps ++ s ∷ []) ≡ suc s
+unfolding lastOf
+last-of-more [] s = refl
+last-of-more (p ∷ []) s = refl
+last-of-more (p ∷ q ∷ ps) s = last-of-more (q ∷ ps) s
+
+-- Relinking keeps the heads' length.
+linked-heads-length : (last x to : ℕ) (heads : List ℕ) → length (headsLinked last x to heads) ≡ length heads
+linked-heads-length zero x to heads = length-set heads x to
+linked-heads-length (suc s) x to heads = refl
+
+-- Two lists with the same rest, past a part that both have, have the same length.
+same-length-by-rest : (n : ℕ) (a b : List ℕ) → n ≤ length a → n ≤ length b → drop n a ≡ drop n b → length a ≡ length b
+same-length-by-rest n a b h k same = omega (arith, length-drop n a, length-drop n b, ap length same)
+
+-- A chain through two lists goes on through the second.
+chain-on : (links : List ℕ) (at : ℕ) (ps rest : List ℕ) → Chain links at (ps ++ rest) → Chain links (linkTo rest) rest
+unfolding Chain
+chain-on links at [] rest chain = rw (sym (chain-link links at rest chain)) chain
+chain-on links at (p ∷ ps) rest chain = chain-on links (getD links p 0) ps rest (chain .2)
+
+module _ (drops : ℕ → Bool) (x : ℕ) (heads₀ links₀ : List ℕ) (slots : Slots) where
+  abbrev whole : List ℕ
+  whole = slotsOf heads₀ links₀ x
+
+  pub record Pruning (heads links : List ℕ) (freed last at left : ℕ) : Type 0 where
+    pub passed : List ℕ
+    pub ahead : List ℕ
+    pub pool : List ℕ
+    pub laid : LaidOut heads links (record { freed = freed; used = slots .used }) (placeAt x (passed ++ ahead) (slotsOf heads₀ links₀)) pool
+    pub named : last ≡ lastOf passed
+    pub leads : at ≡ linkTo ahead
+    pub counted : left ≡ howMany drops ahead
+    pub stayed : those (stays drops) whole ≡ passed ++ those (stays drops) ahead
+    pub gone : freeing drops whole (slotsFreed links₀ slots) ≡ freeing drops ahead pool
+    pub heads-fit : pieceSize ≤ length heads
+    pub links-fit : pieceSize ≤ length links
+    pub heads-rest : drop pieceSize heads ≡ drop pieceSize heads₀
+    pub links-rest : drop (slots .used) links ≡ drop (slots .used) links₀
+
+  pub prune-begins : (count : ℕ) → x < pieceSize → pieceSize ≤ length heads₀ → pieceSize ≤ length links₀
+      → LaidOut heads₀ links₀ slots (slotsOf heads₀ links₀) (slotsFreed links₀ slots) → count ≡ howMany drops whole
+      → Pruning heads₀ links₀ (slots .freed) 0 (getD heads₀ x 0) count
+  unfolding lastOf
+  prune-begins count here heads-fit links-fit laid counted = record {
+    passed = [];
+    ahead = whole;
+    pool = slotsFreed links₀ slots;
+    laid = rw (place-same x (slotsOf heads₀ links₀)) laid;
+    named = refl;
+    leads = chain-link links₀ (getD heads₀ x 0) whole (laid .chains x here);
+    counted = counted;
+    stayed = refl;
+    gone = refl;
+    heads-fit = heads-fit;
+    links-fit = links-fit;
+    heads-rest = refl;
+    links-rest = refl;
+  }
+
+  module _ (here : x < pieceSize) (heads links : List ℕ) (freed last at left : ℕ) (w : Pruning heads links freed last at left) where
+    -- The slots ahead are those that a walk finds.
+    ahead-chain : Chain links (linkTo (w .ahead)) (w .ahead)
+    ahead-chain =
+        chain-on links (getD heads x 0) (w .passed) (w .ahead)
+        (rw (place-here x (w .passed ++ w .ahead) (slotsOf heads₀ links₀)) at (w .laid .chains x here))
+
+    ahead-few : length (w .ahead) ≤ pieceSize
+    ahead-few =
+        let few = laid-few heads links (record { freed = freed; used = slots .used }) (placeAt x (w .passed ++ w .ahead) (slotsOf heads₀ links₀)) (w .pool) (w .laid) x here in
+        omega (arith, rw (place-here x (w .passed ++ w .ahead) (slotsOf heads₀ links₀)) at few, length-append (w .passed) (w .ahead))
+
+    pub prune-walk : slotsFrom pieceSize links at ≡ w .ahead
+    prune-walk = rw (w .leads) (chain-slots pieceSize links (linkTo (w .ahead)) (w .ahead) ahead-chain ahead-few)
+
+    -- While some are left to drop, the link leads to a slot within the pieces.
+    pub prune-inside : (left ≡ 0 → ⊥) → (0 < at) × (at ≤ pieceSize) × (last ≤ pieceSize)
+    unfolding Chain those
+    prune-inside ne = go (w .ahead) (w .leads) (w .counted) ahead-chain
+      where
+        go : (ss : List ℕ) → at ≡ linkTo ss → left ≡ howMany drops ss → Chain links (linkTo ss) ss → (0 < at) × (at ≤ pieceSize) × (last ≤ pieceSize)
+        go [] leads counted chain = absurd (ne counted)
+        go (s ∷ ss) leads counted chain =
+            let last-fit = laid-last heads links (record { freed = freed; used = slots .used }) (placeAt x (w .passed ++ w .ahead) (slotsOf heads₀ links₀)) (w .pool) (w .laid) x (w .passed) (w .ahead) here (place-here x (w .passed ++ w .ahead) (slotsOf heads₀ links₀)) in
+            (omega arith, omega (arith, chain .1), omega (arith, last-fit, w .named, w .laid .used-fit))
+
+    -- A slot that is dropped is detached and freed.
+    pub prune-drops : (heads′ links′ : List ℕ) → (left ≡ 0 → ⊥) → drops (at - 1) ≡ true → heads′ ≡ headsLinked last x (getD links (at - 1) 0) heads
+        → links′ ≡ linksLinked last (getD links (at - 1) 0) links
+        → (w′ : Pruning heads′ (set links′ (at - 1) freed) at last (getD links (at - 1) 0) (left - 1)) × (suc (length (w′ .ahead)) ≡ length (w .ahead))
+    unfolding Chain those freeing
+    prune-drops heads′ links′ ne falls heads-linked links-linked =
+        rw (heads-linked, links-linked) (go (w .ahead) refl (w .leads) (w .counted) ahead-chain)
+      where
+        go : (ss : List ℕ) → w .ahead ≡ ss → at ≡ linkTo ss → left ≡ howMany drops ss → Chain links (linkTo ss) ss
+            → (w′ : Pruning (headsLinked last x (getD links (at - 1) 0) heads) (set (linksLinked last (getD links (at - 1) 0) links) (at - 1) freed) at last
+            (getD links (at - 1) 0) (left - 1)) × (suc (length (w′ .ahead)) ≡ length (w .ahead))
+        go [] same leads counted chain = absurd (ne counted)
+        go (s ∷ ss) same leads counted chain =
+            let at-slot : at - 1 ≡ s = omega (arith, leads) in
+            let falls-here : drops s ≡ true = rw at-slot at falls in
+            let slots′ : Slots = record { freed = freed; used = slots .used } in
+            let lists : ℕ → List ℕ = placeAt x (w .passed ++ w .ahead) (slotsOf heads₀ links₀) in
+            let split : lists x ≡ w .passed ++ s ∷ ss =
+            place-here x (w .passed ++ w .ahead) (slotsOf heads₀ links₀) ∙ ap (λ (t : List ℕ). w .passed ++ t) same in
+            rw (at-slot, leads, w .named) (
+              record {
+                passed = w .passed;
+                ahead = ss;
+                pool = s ∷ w .pool;
+                laid =
+                    rw (sym (place-twice x (w .passed ++ w .ahead) (w .passed ++ ss) (slotsOf heads₀ links₀)))
+                    (laid-detached heads links slots′ lists (w .pool) (w .laid) (w .heads-fit) (w .links-fit) x here (w .passed) s ss split);
+                named = refl;
+                leads = chain-link links (getD links s 0) ss (chain .2);
+                counted = omega (arith, rw falls-here at counted);
+                stayed = rw (same, falls-here) at (w .stayed);
+                gone = rw (same, falls-here) at (w .gone);
+                heads-fit = omega (arith, w .heads-fit, linked-heads-length (lastOf (w .passed)) x (getD links s 0) heads);
+                links-fit =
+                    omega (
+                      arith,
+                      w .links-fit,
+                      length-set (linksLinked (lastOf (w .passed)) (getD links s 0) links) s freed,
+                      linked-length (lastOf (w .passed)) (getD links s 0) links,
+                    );
+                heads-rest = linked-heads-rest (lastOf (w .passed)) x (getD links s 0) heads here ∙ w .heads-rest;
+                links-rest =
+                    detached-links-rest heads links slots′ lists (w .pool) (w .laid) (w .heads-fit) (w .links-fit) x here (w .passed) s ss split ∙ w .links-rest;
+              },
+              rw same refl,
+            )
+
+    -- A slot that stays is passed.
+    pub prune-stays : (left ≡ 0 → ⊥) → drops (at - 1) ≡ false
+        → (w′ : Pruning heads links freed at (getD links (at - 1) 0) left) × (suc (length (w′ .ahead)) ≡ length (w .ahead))
+    unfolding Chain those freeing
+    prune-stays ne stands = go (w .ahead) refl (w .leads) (w .counted) ahead-chain
+      where
+        go : (ss : List ℕ) → w .ahead ≡ ss → at ≡ linkTo ss → left ≡ howMany drops ss → Chain links (linkTo ss) ss
+            → (w′ : Pruning heads links freed at (getD links (at - 1) 0) left) × (suc (length (w′ .ahead)) ≡ length (w .ahead))
+        go [] same leads counted chain = absurd (ne counted)
+        go (s ∷ ss) same leads counted chain =
+            let at-slot : at - 1 ≡ s = omega (arith, leads) in
+            let stays-here : drops s ≡ false = rw at-slot at stands in
+            let glued : (w .passed ++ s ∷ []) ++ ss ≡ w .passed ++ s ∷ ss = append-assoc (w .passed) (s ∷ []) ss in
+            rw (at-slot, leads) (
+              record {
+                passed = w .passed ++ s ∷ [];
+                ahead = ss;
+                pool = w .pool;
+                laid = rw (glued, sym same) (w .laid);
+                named = sym (last-of-more (w .passed) s);
+                leads = chain-link links (getD links s 0) ss (chain .2);
+                counted = rw stays-here at counted;
+                stayed = rw (append-assoc (w .passed) (s ∷ []) (those (stays drops) ss)) (rw (same, stays-here) at (w .stayed));
+                gone = rw (same, stays-here) at (w .gone);
+                heads-fit = w .heads-fit;
+                links-fit = w .links-fit;
+                heads-rest = w .heads-rest;
+                links-rest = w .links-rest;
+              },
+              rw same refl,
+            )
+
+    -- With none left to drop the rest stays as it is.
+    pub prune-ends : left ≡ 0 → Pruned drops x heads₀ links₀ slots heads links (record { freed = freed; used = slots .used })
+    prune-ends z =
+        let none : howMany drops (w .ahead) ≡ 0 = sym (w .counted) ∙ z in
+        record {
+          laid-out = rw (w .stayed, none-dropped drops (w .ahead) none, w .gone, none-freed drops (w .ahead) (w .pool) none) (w .laid);
+          same-used = refl;
+          heads-rest = w .heads-rest;
+          links-rest = w .links-rest;
+        }
+
+  -- Each step leaves less ahead.
+  pub prune-falls : x < pieceSize → (heads links : List ℕ) (freed last at left : ℕ) (heads′ links′ : List ℕ) (freed′ last′ at′ left′ : ℕ)
+      (w : Pruning heads links freed last at left) (w′ : Pruning heads′ links′ freed′ last′ at′ left′) → suc (length (w′ .ahead)) ≡ length (w .ahead)
+      → length (slotsFrom pieceSize links′ at′) < length (slotsFrom pieceSize links at)
+  prune-falls here heads links freed last at left heads′ links′ freed′ last′ at′ left′ w w′ less =
+      rw (prune-walk here heads links freed last at left w, prune-walk here heads′ links′ freed′ last′ at′ left′ w′) (omega arith)
+
+  -- Nothing grows.
+  pub prune-lengths : pieceSize ≤ length heads₀ → pieceSize ≤ length links₀ → slots .used ≤ pieceSize → (heads links : List ℕ) (freed last at left : ℕ)
+      → Pruning heads links freed last at left → (length heads ≡ length heads₀) × (length links ≡ length links₀)
+  prune-lengths heads-fit links-fit used-fit heads links freed last at left w = (
+    same-length-by-rest pieceSize heads heads₀ (w .heads-fit) heads-fit (w .heads-rest),
+    same-length-by-rest (slots .used) links links₀ (omega (arith, w .links-fit)) (omega arith) (w .links-rest),
+  )

@@ -1,0 +1,28 @@
+use borrow.Author.Needs.{needs}
+use Rattle.kept.proofs.Visits.{not-dropped-unasked, dropped-asked}
+use Rattle.kept.proofs.drops.Statement.{statement}
+use Rattle.kept.proofs.drops.Tie as tie
+use Rattle.kept.proofs.drops.Reads as reads
+use Rattle.kept.proofs.drops.Lts as lts
+use Rattle.bags.proofs.ask.Pairs.ask.Reads as ask-reads
+use Rattle.kept.proofs.says_parallel.Reads as says-parallel-reads
+use Rattle.locks.proofs.within.Reads as within-reads
+
+within-requires : tie.Need-within-requires
+within-requires c κs = search needs
+
+returns : tie.Need-returns
+returns c = not-dropped-unasked _ _ _ _ (c .before .within .ensures) (c .if1 .taken)
+
+ask-requires : tie.Need-ask-requires
+ask-requires c κs = search needs
+
+says-parallel-requires : tie.Need-says-parallel-requires
+says-parallel-requires c κs = search needs
+
+returns-2 : tie.Need-returns-2
+returns-2 c = dropped-asked _ _ _ _ (c .before .ask .result) (c .before .before .before .within .ensures) (c .before .before .if1 .left) (c .before .ask .ensures .1 .0) (c .says-parallel .ensures)
+
+pub drops-spec : {M : Type 1} → statement M
+drops-spec =
+    tie.close (tie.spec within-requires returns ask-requires says-parallel-requires returns-2)

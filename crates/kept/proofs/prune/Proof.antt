@@ -1,0 +1,144 @@
+-- `prune` walks the list until none is left to drop; each step is a law of `Pruning`. Assumes nothing.
+use Prim.Native.Nat.{_≤_, _<_}
+use mathlib.Core.Path.{_≡_, sym, _∙_}
+use native.Mathlib.Omega.{arith}
+use lib.ListN.{length}
+use borrow.Author.Needs.{needs}
+use Rattle.bags.specs.Runs.{bagsIn}
+use Rattle.kept.specs.Pieces.{pieceSize, slotsFrom}
+use Rattle.kept.specs.Parts.{dropsBy}
+use Rattle.kept.proofs.Pruning.{Pruning, prune-begins, prune-inside, prune-walk, prune-drops, prune-stays, prune-ends, prune-falls, prune-lengths}
+use Rattle.kept.proofs.prune.Statement.{statement}
+use Rattle.kept.proofs.prune.Tie as tie
+use Rattle.kept.proofs.prune.Reads as reads
+use Rattle.kept.proofs.prune.Lts as lts
+use Rattle.kept.proofs.drops.Reads as drops-reads
+use Rattle.kept.proofs.relink.Reads as relink-reads
+
+abbrev Inv-loop : tie.InvT-loop
+Inv-loop heads₀ links₀ procedures sets location entry slots count pairs starts joins freed₀ last₀ at₀ left₀ heads links freed last at left =
+    Pruning (dropsBy (bagsIn starts joins pairs) entry procedures sets) location heads₀ links₀ slots heads links freed last at left
+
+abbrev μ-loop : tie.MeasureT-loop
+μ-loop heads₀ links₀ procedures sets location entry slots count pairs starts joins freed₀ last₀ at₀ left₀ heads links freed last at left =
+    length (slotsFrom pieceSize links at)
+
+mul-at : tie.Need-mul-at Inv-loop μ-loop
+mul-at c = search needs
+
+slice-read-at : tie.Need-slice-read-at Inv-loop μ-loop
+slice-read-at c = search needs
+
+loop-holds : tie.Need-loop-holds Inv-loop μ-loop
+loop-holds c = prune-begins _ _ _ _ _ _ (search needs) (search needs) (search needs) (search needs) (search needs)
+
+-- The location has a list.
+here : (a : tie.At-loop Inv-loop μ-loop) → a .before .before .before .before .before .before .before .before .args .location < pieceSize
+here a = a .before .before .before .before .before .before .before .before .pre .1 .0
+
+-- While some are left to drop, the link leads to a slot within the pieces.
+inside : (c : tie.In-loop Inv-loop μ-loop) → (0 < c .before .loop .at) × (c .before .loop .at ≤ pieceSize) × (c .before .loop .last ≤ pieceSize)
+inside c = prune-inside _ _ _ _ _ (here (c .before)) _ _ _ _ _ _ (c .before .loop .inv) (c .loop-test .taken)
+
+sub-slot : tie.Need-sub-slot Inv-loop μ-loop
+sub-slot c = omega (arith, inside c)
+
+cast-slot : tie.Need-cast-slot Inv-loop μ-loop
+cast-slot c = omega (arith, inside c)
+
+mul-next : tie.Need-mul-next Inv-loop μ-loop
+mul-next c = omega (arith, inside c)
+
+slice-read-next : tie.Need-slice-read-next Inv-loop μ-loop
+slice-read-next c = omega (arith, inside (c .before), c .before .before .loop .inv .links-fit)
+
+mul-t23 : tie.Need-mul-t23 Inv-loop μ-loop
+mul-t23 c = omega (arith, inside (c .before))
+
+shared-slice-read-t22 : tie.Need-shared-slice-read-t22 Inv-loop μ-loop
+shared-slice-read-t22 c = omega (arith, inside (c .before .before))
+
+mul-drops : tie.Need-mul-drops Inv-loop μ-loop
+mul-drops c = omega (arith, inside (c .before .before))
+
+shared-slice-read-drops : tie.Need-shared-slice-read-drops Inv-loop μ-loop
+shared-slice-read-drops c = omega (arith, inside (c .before .before .before))
+
+drops-requires : tie.Need-drops-requires Inv-loop μ-loop
+drops-requires c κs = search needs
+
+relink-requires : tie.Need-relink-requires Inv-loop μ-loop
+relink-requires c κs = (omega (arith, here (c .before .before .before .before .before .before .before .before), c .before .before .before .before .before .before .before .before .loop .inv .heads-fit), omega (arith, inside (c .before .before .before .before .before .before .before), c .before .before .before .before .before .before .before .before .loop .inv .links-fit))
+
+mul-links : tie.Need-mul-links Inv-loop μ-loop
+mul-links c = omega (arith, inside (c .before .before .before .before .before .before .before .before .before .before .before .before))
+
+slice-write-links : tie.Need-slice-write-links Inv-loop μ-loop
+slice-write-links c = omega (arith, inside (c .before .before .before .before .before .before .before .before .before .before .before .before), c .before .before .before .before .before .before .before .before .before .before .before .before .before .loop .inv .links-fit, c .before .before .before .before .relink .kept .1 .0)
+
+sub-left : tie.Need-sub-left Inv-loop μ-loop
+sub-left c = omega (arith, c .before .before .before .before .before .before .before .before .before .before .before .before .loop-test .taken)
+
+loop-less : tie.Need-loop-less Inv-loop μ-loop
+loop-less c =
+    let next = prune-drops _ _ _ _ _ (here (c .before .before .before .before .before .before .before .before .before .before .before .before .before)) _ _ _ _ _ _ (c .before .before .before .before .before .before .before .before .before .before .before .before .before .loop .inv) _ _ (c .before .before .before .before .before .before .before .before .before .before .before .before .loop-test .taken)
+    (sym (c .before .before .before .before .before .before .before .before .drops .ensures) ∙ c .before .before .before .before .before .before .before .if1 .taken) (c .before .before .before .before .relink .ensures .0) (c .before .before .before .before .relink .ensures .1) in
+    prune-falls _ _ _ _ _ (here (c .before .before .before .before .before .before .before .before .before .before .before .before .before)) _ _ _ _ _ _ _ _ _ _ _ _ (c .before .before .before .before .before .before .before .before .before .before .before .before .before .loop .inv) (next .0) (next .1)
+
+loop-again : tie.Need-loop-again Inv-loop μ-loop
+loop-again c = (prune-drops _ _ _ _ _ (here (c .before .before .before .before .before .before .before .before .before .before .before .before .before)) _ _ _ _ _ _ (c .before .before .before .before .before .before .before .before .before .before .before .before .before .loop .inv) _ _ (c .before .before .before .before .before .before .before .before .before .before .before .before .loop-test .taken) (sym (c .before .before .before .before .before .before .before .before .drops .ensures) ∙ c .before .before .before .before .before .before .before .if1 .taken)
+    (c .before .before .before .before .relink .ensures .0) (c .before .before .before .before .relink .ensures .1)) .0
+
+loop-less-2 : tie.Need-loop-less-2 Inv-loop μ-loop
+loop-less-2 c =
+    let next = prune-stays _ _ _ _ _ (here (c .before .before .before .before .before .before)) _ _ _ _ _ _ (c .before .before .before .before .before .before .loop .inv) (c .before .before .before .before .before .loop-test .taken) (sym (c .before .drops .ensures) ∙ c .if1 .left) in
+    prune-falls _ _ _ _ _ (here (c .before .before .before .before .before .before)) _ _ _ _ _ _ _ _ _ _ _ _ (c .before .before .before .before .before .before .loop .inv) (next .0) (next .1)
+
+loop-again-2 : tie.Need-loop-again-2 Inv-loop μ-loop
+loop-again-2 c = (prune-stays _ _ _ _ _ (here (c .before .before .before .before .before .before)) _ _ _ _ _ _ (c .before .before .before .before .before .before .loop .inv) (c .before .before .before .before .before .loop-test .taken) (sym (c .before .drops .ensures) ∙ c .if1 .left)) .0
+
+-- Heads and links keep their lengths.
+lengths : (a : tie.At-loop Inv-loop μ-loop)
+    → (length (a .loop .heads) ≡ length (a .before .before .before .before .before .before .before .before .args .heads .now)) × (length (a .loop .links) ≡ length (a .before .before .before .before .before .before .before .before .args .links .now))
+lengths a =
+    let pre = a .before .before .before .before .before .before .before .before .pre in
+    prune-lengths _ _ _ _ _ (pre .1 .1 .0) (pre .1 .1 .1 .0) (pre .1 .1 .1 .1 .1 .1 .0 .used-fit) _ _ _ _ _ _ (a .loop .inv)
+
+same-length : tie.Need-same-length Inv-loop μ-loop
+same-length c = lengths (c .before) .0
+
+same-length-2 : tie.Need-same-length-2 Inv-loop μ-loop
+same-length-2 c = lengths (c .before) .1
+
+returns : tie.Need-returns Inv-loop μ-loop
+returns c = prune-ends _ _ _ _ _ (here (c .before)) _ _ _ _ _ _ (c .before .loop .inv) (c .loop-test .left)
+
+pub prune-spec : {M : Type 1} → statement M
+prune-spec =
+    tie.close
+    (tie.spec
+    Inv-loop
+    μ-loop
+    mul-at
+    slice-read-at
+    loop-holds
+    sub-slot
+    cast-slot
+    mul-next
+    slice-read-next
+    mul-t23
+    shared-slice-read-t22
+    mul-drops
+    shared-slice-read-drops
+    drops-requires
+    relink-requires
+    mul-links
+    slice-write-links
+    sub-left
+    loop-less
+    loop-again
+    loop-less-2
+    loop-again-2
+    same-length
+    same-length-2
+    returns)

@@ -1,0 +1,51 @@
+use borrow.Author.Needs.{needs}
+use Rattle.kept.proofs.Linking.{race-named}
+use Rattle.kept.proofs.race_at.Statement.{statement}
+use Rattle.kept.proofs.race_at.Tie as tie
+use Rattle.kept.proofs.race_at.Reads as reads
+use Rattle.kept.proofs.race_at.Lts as lts
+
+returns : tie.Need-returns
+returns c = search needs
+
+sub-slot : tie.Need-sub-slot
+sub-slot c = search needs
+
+cast-slot : tie.Need-cast-slot
+cast-slot c = search needs
+
+mul-t8 : tie.Need-mul-t8
+mul-t8 c = search needs
+
+shared-slice-read-t7 : tie.Need-shared-slice-read-t7
+shared-slice-read-t7 c = search needs
+
+mul-t11 : tie.Need-mul-t11
+mul-t11 c = search needs
+
+shared-slice-read-t13 : tie.Need-shared-slice-read-t13
+shared-slice-read-t13 c = search needs
+
+mul-t15 : tie.Need-mul-t15
+mul-t15 c = search needs
+
+shared-slice-read-t17 : tie.Need-shared-slice-read-t17
+shared-slice-read-t17 c = search needs
+
+returns-2 : tie.Need-returns-2
+returns-2 c = race-named _ _ _ (c .before .before .before .before .args .at) (search needs)
+
+pub race-at-spec : {M : Type 1} → statement M
+race-at-spec =
+    tie.close
+    (tie.spec
+    returns
+    sub-slot
+    cast-slot
+    mul-t8
+    shared-slice-read-t7
+    mul-t11
+    shared-slice-read-t13
+    mul-t15
+    shared-slice-read-t17
+    returns-2)

@@ -1,0 +1,18 @@
+use borrow.Author.Needs.{needs}
+use borrow.Author.Tests.{eq-eqb, ne-eqb}
+use Rattle.kept.proofs.slot_for.Statement.{statement}
+use Rattle.kept.proofs.slot_for.Tie as tie
+use Rattle.kept.proofs.slot_for.Reads as reads
+use Rattle.kept.proofs.slot_for.Lts as lts
+
+sub-result : tie.Need-sub-result
+sub-result c = search needs
+
+returns : tie.Need-returns
+returns c = simp (eq-eqb _ _ (c .if1 .taken))
+
+returns-2 : tie.Need-returns-2
+returns-2 c = simp (ne-eqb _ _ (c .before .if1 .left))
+
+pub slot-for-spec : {M : Type 1} → statement M
+slot-for-spec = tie.close (tie.spec sub-result returns returns-2)

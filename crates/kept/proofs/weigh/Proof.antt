@@ -1,0 +1,66 @@
+use borrow.Author.Needs.{needs}
+use Rattle.kept.proofs.Visits.{weighed-unasked, weighed-asked}
+use Rattle.kept.proofs.weigh.Statement.{statement}
+use Rattle.kept.proofs.weigh.Tie as tie
+use Rattle.kept.proofs.weigh.Reads as reads
+use Rattle.kept.proofs.weigh.Lts as lts
+use Rattle.bags.proofs.ask.Pairs.ask.Reads as ask-reads
+use Rattle.bags.proofs.ask.Pairs.in_some_bag.Reads as in-some-bag-reads
+use Rattle.kept.proofs.Seen.with.Reads as with-reads
+use Rattle.kept.proofs.says_no_bag.Reads as says-no-bag-reads
+use Rattle.kept.proofs.says_parallel.Reads as says-parallel-reads
+use Rattle.locks.proofs.apart.Reads as apart-reads
+use Rattle.locks.proofs.within.Reads as within-reads
+
+apart-requires : tie.Need-apart-requires
+apart-requires c κs = search needs
+
+within-requires : tie.Need-within-requires
+within-requires c κs = search needs
+
+within-requires-2 : tie.Need-within-requires-2
+within-requires-2 c κs = search needs
+
+in-some-bag-requires : tie.Need-in-some-bag-requires
+in-some-bag-requires c κs = search needs
+
+with-requires : tie.Need-with-requires
+with-requires c κs = search needs
+
+returns : tie.Need-returns
+returns c =
+    weighed-unasked _ _ _ _ _ _ (c .before .before .before .before .before .apart .ensures) (c .before .before .before .before .within .ensures) (c .before .before .before .within2 .ensures) (c .before .before .if1 .taken)
+    (c .before .in-some-bag .ensures .1 _ _ (search needs)) (c .with .ensures)
+
+ask-requires : tie.Need-ask-requires
+ask-requires c κs = search needs
+
+says-parallel-requires : tie.Need-says-parallel-requires
+says-parallel-requires c κs = search needs
+
+says-no-bag-requires : tie.Need-says-no-bag-requires
+says-no-bag-requires c κs = search needs
+
+with-requires-2 : tie.Need-with-requires-2
+with-requires-2 c κs = search needs
+
+returns-2 : tie.Need-returns-2
+returns-2 c =
+    weighed-asked _ _ _ _ _ _ (c .before .before .before .ask .result) (c .before .before .before .before .before .before .before .apart .ensures) (c .before .before .before .before .before .before .within .ensures) (c .before .before .before .before .before .within2 .ensures)
+    (c .before .before .before .ask .ensures .1 .0) (c .before .before .before .ask .ensures .1 .1) (c .before .before .says-parallel .ensures) (c .before .says-no-bag .ensures) (c .with2 .ensures)
+
+pub weigh-spec : {M : Type 1} → statement M
+weigh-spec =
+    tie.close
+    (tie.spec
+    apart-requires
+    within-requires
+    within-requires-2
+    in-some-bag-requires
+    with-requires
+    returns
+    ask-requires
+    says-parallel-requires
+    says-no-bag-requires
+    with-requires-2
+    returns-2)

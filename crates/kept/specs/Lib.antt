@@ -1,0 +1,6 @@
+pub mod Lists
+pub mod Rules
+pub mod Theorem
+pub mod Pieces
+pub mod Access
+pub mod Parts

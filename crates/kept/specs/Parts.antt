@@ -1,0 +1,99 @@
+-- What the parts of an access do: the visits, the unlinking, the appending.
+use Prim.Native.Nat.{ℕ, zero, suc, _+_, _-_, _≤_, _<_}
+use mathlib.Core.Path.{_≡_}
+use mathlib.Core.Bool.{Bool, true, false, cond, not, _&&_, _||_}
+use mathlib.Core.List.{List, [], _∷_}
+use lib.Dec.{eqb}
+use lib.ListN.{length, getD, set, drop}
+use Rattle.bags.specs.declared.ask.Answer.{Answer}
+use Rattle.bags.specs.declared.ask.Answer.the-variants.{InSeries, InParallel, InNoBag}
+use Rattle.bags.specs.Bags.{Bags}
+use Rattle.kept.specs.declared.Entry.{Entry}
+use Rattle.kept.specs.declared.Slots.{Slots}
+use Rattle.kept.specs.declared.Seen.{Seen}
+use Rattle.kept.specs.declared.Race.{Race}
+use Rattle.kept.specs.declared.Race.the-variants.{Nobody, With}
+use Rattle.kept.specs.Lists.{those}
+use Rattle.kept.specs.Rules.{races, dropped, leavesOut}
+use Rattle.kept.specs.Pieces.{pieceSize, slotsOf, slotsFreed, Chain, LaidOut}
+use Rattle.kept.specs.Access.{parallelBy, inNoBag, placeAt, freeing}
+
+-- The bags' answer says that a procedure is in no bag.
+abbrev pub saysNoBag : Answer → Bool
+saysNoBag InSeries = false
+saysNoBag InParallel = false
+saysNoBag InNoBag = true
+
+-- An entry as far as the rules look at it: its procedure and its lock set.
+abbrev pub entryOf : ℕ → ℕ → Entry
+entryOf procedure locks = record { event = record { 0 = 0 }; procedure = record { 0 = procedure }; locks = locks }
+
+-- Nothing is seen yet; one entry more; and, at an access e, the entries in these slots one after the other.
+abbrev pub nothingSeen : Seen
+nothingSeen = record { visits = 0; race = 0; covered = false; dropped = 0; stray = false; last = 0 }
+
+abbrev pub weighed : ℕ → Bool → Bool → Bool → Bool → Seen → Seen
+weighed at stray racing drops covers seen = record {
+  visits = seen .visits + 1;
+  race = cond (racing && eqb (seen .race) 0) at (seen .race);
+  covered = seen .covered || covers;
+  dropped = cond drops (seen .dropped + 1) (seen .dropped);
+  stray = seen .stray || stray;
+  last = cond drops (seen .last) at;
+}
+
+module _ (bs : List Bags) (e : Entry) where
+  unfoldable pub weighedEntry : ℕ → Entry → Seen → Seen
+  weighedEntry at k = weighed at (inNoBag bs k) (races (parallelBy bs) e k) (dropped (parallelBy bs) e k) (leavesOut (parallelBy bs) e k)
+
+  unfoldable pub seenOver : List ℕ → List ℕ → List ℕ → Seen → Seen
+  seenOver procedures sets [] seen = seen
+  seenOver procedures sets (s ∷ ss) seen = seenOver procedures sets ss (weighedEntry (suc s) (entryOf (getD procedures s 0) (getD sets s 0)) seen)
+
+-- The entry would find no slot.
+abbrev pub isFull : Seen → Slots → Bool
+isFull seen slots = not (seen .covered) && eqb (seen .dropped) 0 && eqb (slots .freed) 0 && eqb (slots .used) pieceSize
+
+-- A location's list can be walked.
+pub record Walkable (heads links : List ℕ) (x : ℕ) : Type 0 where
+  pub head-fit : x < length heads
+  pub links-fit : pieceSize ≤ length links
+  pub chain : Chain links (getD heads x 0) (slotsOf heads links x)
+  pub few : length (slotsOf heads links x) ≤ pieceSize
+
+-- The entry that a link names.
+abbrev pub raceAt : List ℕ → List ℕ → List ℕ → ℕ → Race
+raceAt events procedures sets zero = Nobody
+raceAt events procedures sets (suc s) = With (record { event = record { 0 = getD events s 0 }; procedure = record { 0 = getD procedures s 0 }; locks = getD sets s 0 })
+
+-- What comes after slot `last - 1` of a location's list, or first in it where `last` is 0, is now what the link `to` leads to.
+abbrev pub headsLinked : ℕ → ℕ → ℕ → List ℕ → List ℕ
+headsLinked zero x to heads = set heads x to
+headsLinked (suc s) x to heads = heads
+
+abbrev pub linksLinked : ℕ → ℕ → List ℕ → List ℕ
+linksLinked zero to links = links
+linksLinked (suc s) to links = set links s to
+
+-- Which slots hold an entry that is dropped, and how many of a list.
+abbrev pub dropsBy : List Bags → Entry → List ℕ → List ℕ → ℕ → Bool
+dropsBy bs e procedures sets s = dropped (parallelBy bs) e (entryOf (getD procedures s 0) (getD sets s 0))
+
+abbrev pub howMany : (ℕ → Bool) → List ℕ → ℕ
+howMany drops ss = length (those drops ss)
+
+-- The dropped are out of the location's list, and freed.
+pub record Pruned (drops : ℕ → Bool) (x : ℕ) (heads links : List ℕ) (slots : Slots) (heads′ links′ : List ℕ) (slots′ : Slots) : Type 0 where
+  pub laid-out : LaidOut heads′ links′ slots′ (placeAt x (those (λ s. not (drops s)) (slotsOf heads links x)) (slotsOf heads links))
+      (freeing drops (slotsOf heads links x) (slotsFreed links slots))
+  pub same-used : slots′ .used ≡ slots .used
+  pub heads-rest : drop pieceSize heads′ ≡ drop pieceSize heads
+  pub links-rest : drop (slots .used) links′ ≡ drop (slots .used) links
+
+-- The slot for the next entry, and which hold none then.
+abbrev pub slotFor : Slots → ℕ
+slotFor slots = cond (eqb (slots .freed) 0) (slots .used) (slots .freed - 1)
+
+abbrev pub slotsThen : List ℕ → Slots → Slots
+slotsThen links slots =
+    cond (eqb (slots .freed) 0) (record { freed = 0; used = slots .used + 1 }) (record { freed = getD links (slots .freed - 1) 0; used = slots .used })

@@ -1,0 +1,447 @@
+// The entries kept for each location, as lists in lent memory, and what an access makes of them. Nothing here knows of bytes or
+// kinds of events; of the bags it knows only what they answer about a procedure.
+//
+// `empty_lists` sets up the lists, `access` brings one access in, and `clear` leaves the pieces zero.
+ghost use mathlib.Core.Path.{_≡_};
+ghost use mathlib.Core.Bool.{cond, not, _&&_, _||_};
+ghost use mathlib.Core.List.{List, _++_};
+ghost use Prim.Native.Nat.{ℕ, _≤_, _<_, _+_, _-_};
+ghost use lib.ListN.{length, getD, set, drop, replicate};
+ghost use lib.Dec.{eqb};
+ghost use Rattle.locks.specs.Sets.{within};
+ghost use Rattle.bags.specs.Bags.{inPBag};
+ghost use Rattle.bags.specs.Runs.{bagsIn, Room as BagsRoom};
+ghost use Rattle.bags.specs.Ask.{saysParallel};
+ghost use Rattle.kept.specs.Rules.{dropped};
+ghost use Rattle.kept.specs.Pieces.{pieceSize, pieces, slotsOf, slotsFreed, listsIn, LaidOut, Room};
+ghost use Rattle.kept.specs.Access.{parallelBy, accessed, slotsAfter, AfterAccess};
+ghost use Rattle.kept.specs.Parts.{entryOf, saysNoBag, nothingSeen, weighed, weighedEntry, seenOver, isFull, Walkable, raceAt, headsLinked, linksLinked, dropsBy, howMany, Pruned, slotFor, slotsThen};
+use bags::ask::Answer;
+use bags::ask::Pairs;
+use bags::ask::ProcedureNumber;
+use locks::apart;
+use locks::within;
+use trace::EventNumber;
+
+// So many locations, and so many slots.
+const PIECE_SIZE: u32 = 4096;
+
+// An access that may be kept: the event's number, the procedure that makes it, and its lock set.
+pub struct Entry {
+    pub event: EventNumber,
+    pub procedure: ProcedureNumber,
+    pub locks: u64,
+}
+
+// Which slots hold no entry: `freed` links those whose entry was dropped, and from `used` on they never held one.
+pub struct Slots {
+    pub freed: u32,
+    pub used: u32,
+}
+
+// The kept entry that an access races with.
+pub enum Race {
+    Nobody,
+    With(Entry),
+}
+
+// What an access gives: which slots hold no entry now, the visits and the race; or a refusal.
+pub enum Accessed {
+    Done(Slots, u32, Race),
+    InNoBag,
+    Full,
+}
+
+// What the visits to a list have found so far: how many there were, the first entry that races, whether the access is covered, how
+// many are to be dropped, whether some entry's procedure is in no bag, and the last entry that stays. An entry is named by the link to its slot, 0 for
+// none.
+struct Seen {
+    visits: u32,
+    race: u32,
+    covered: bool,
+    dropped: u32,
+    stray: bool,
+    last: u32,
+}
+
+impl Seen {
+    // One entry more is visited.
+    fn with(self, at: u32, stray: bool, races: bool, drops: bool, covers: bool) -> Seen
+        requires { ⌜ self .visits < pieceSize ⌝ }
+        requires { ⌜ self .dropped ≤ self .visits ⌝ }
+        ensures { λ r. ⌜ r ≡ weighed at stray races drops covers self ⌝ }
+    {
+        Seen {
+            visits: self.visits + 1,
+            race: pick(races & (self.race == 0), at, self.race),
+            covered: self.covered | covers,
+            dropped: pick(drops, self.dropped + 1, self.dropped),
+            stray: self.stray | stray,
+            last: pick(drops, self.last, at),
+        }
+    }
+
+    // Would the entry find no slot?
+    fn is_full(self, slots: Slots) -> bool
+        ensures { λ r. ⌜ r ≡ isFull self slots ⌝ }
+    {
+        !self.covered & (self.dropped == 0) & (slots.freed == 0) & (slots.used == PIECE_SIZE)
+    }
+}
+
+// The first number if so, else the second.
+fn pick(so: bool, first: u32, second: u32) -> u32
+    ensures { λ r. ⌜ r ≡ cond so first second ⌝ }
+{
+    if so { first } else { second }
+}
+
+// An access to a location, the bags being as they stand before it. First the list is only read; then come the refusals; and only then do
+// the pieces change.
+pub fn access(
+    heads: &mut [u32],
+    links: &mut [u32],
+    events: &mut [u32],
+    procedures: &mut [u32],
+    sets: &mut [u64],
+    slots: Slots,
+    location: usize,
+    entry: Entry,
+    pairs: Pairs,
+    starts: &[u32],
+    joins: &[u32],
+) -> Accessed
+    requires { ⌜ BagsRoom (now starts) (now joins) pairs ⌝ }
+    requires { ⌜ Room (pieces (now heads) (now links) (now events) (now procedures) (now sets)) slots ⌝ }
+    requires { ⌜ location < pieceSize ⌝ }
+    ensures result { λ r.
+        ⌜ r ≡ accessed (bagsIn (now (starts .entry)) (now (joins .entry)) pairs) location entry
+        (listsIn (pieces (now (heads .entry)) (now (links .entry)) (now (events .entry)) (now (procedures .entry)) (now (sets .entry))))
+        (slotsAfter (bagsIn (now (starts .entry)) (now (joins .entry)) pairs) location entry
+        (pieces (now (heads .entry)) (now (links .entry)) (now (events .entry)) (now (procedures .entry)) (now (sets .entry))) slots) ⌝ }
+    ensures pieces { λ r.
+        ⌜ AfterAccess (bagsIn (now (starts .entry)) (now (joins .entry)) pairs) location entry
+        (pieces (now (heads .entry)) (now (links .entry)) (now (events .entry)) (now (procedures .entry)) (now (sets .entry))) slots
+        (pieces (now (heads .exit)) (now (links .exit)) (now (events .exit)) (now (procedures .exit)) (now (sets .exit))) r ⌝ }
+{
+    let seen = look(
+        heads,
+        links,
+        procedures,
+        sets,
+        location,
+        entry,
+        pairs,
+        starts,
+        joins,
+    );
+    if seen.stray {
+        return Accessed::InNoBag;
+    }
+    if seen.is_full(slots) {
+        return Accessed::Full;
+    }
+    let race = race_at(seen.race, events, procedures, sets);
+    let pruned = prune(
+        heads,
+        links,
+        procedures,
+        sets,
+        location,
+        entry,
+        slots,
+        seen.dropped,
+        pairs,
+        starts,
+        joins,
+    );
+    if seen.covered {
+        return Accessed::Done(pruned, seen.visits, race);
+    }
+    let then = append(
+        heads,
+        links,
+        events,
+        procedures,
+        sets,
+        location,
+        seen.last,
+        entry,
+        pruned,
+    );
+    Accessed::Done(then, seen.visits, race)
+}
+
+// The entry of that procedure, with those locks, is visited. The bags are asked only where the answer matters.
+fn weigh(
+    seen: Seen,
+    at: u32,
+    procedure: ProcedureNumber,
+    locks: u64,
+    entry: Entry,
+    pairs: Pairs,
+    starts: &[u32],
+    joins: &[u32],
+) -> Seen
+    requires { ⌜ BagsRoom (now starts) (now joins) pairs ⌝ }
+    requires { ⌜ seen .visits < pieceSize ⌝ }
+    requires { ⌜ seen .dropped ≤ seen .visits ⌝ }
+    ensures { λ r. ⌜ r ≡ weighedEntry (bagsIn (now (starts .entry)) (now (joins .entry)) pairs) entry at (entryOf (procedure .0) locks) seen ⌝ }
+{
+    let nothing_in_common = apart(locks, entry.locks);
+    let lies_within = within(locks, entry.locks);
+    let contains = within(entry.locks, locks);
+    if !(nothing_in_common | lies_within | contains) {
+        return seen.with(at, !pairs.in_some_bag(procedure), false, false, false);
+    }
+    let answer = pairs.ask(starts, joins, procedure);
+    let parallel = says_parallel(answer);
+    seen.with(
+        at,
+        says_no_bag(answer),
+        parallel & nothing_in_common,
+        !parallel & contains,
+        parallel & lies_within,
+    )
+}
+
+// What an answer says: in parallel, or else in series; and in no bag.
+fn says_parallel(answer: Answer) -> bool
+    ensures { λ r. ⌜ r ≡ saysParallel answer ⌝ }
+{
+    match answer {
+        Answer::InSeries => false,
+        Answer::InParallel => true,
+        Answer::InNoBag => false,
+    }
+}
+
+fn says_no_bag(answer: Answer) -> bool
+    ensures { λ r. ⌜ r ≡ saysNoBag answer ⌝ }
+{
+    match answer {
+        Answer::InSeries => false,
+        Answer::InParallel => false,
+        Answer::InNoBag => true,
+    }
+}
+
+// Every entry of a location's list is visited; nothing changes.
+fn look(
+    heads: &[u32],
+    links: &[u32],
+    procedures: &[u32],
+    sets: &[u64],
+    location: usize,
+    entry: Entry,
+    pairs: Pairs,
+    starts: &[u32],
+    joins: &[u32],
+) -> Seen
+    requires { ⌜ BagsRoom (now starts) (now joins) pairs ⌝ }
+    requires { ⌜ Walkable (now heads) (now links) location ⌝ }
+    requires { ⌜ pieceSize ≤ length (now procedures) ⌝ }
+    requires { ⌜ pieceSize ≤ length (now sets) ⌝ }
+    ensures { λ r.
+        ⌜ r ≡ seenOver (bagsIn (now (starts .entry)) (now (joins .entry)) pairs) entry (now (procedures .entry)) (now (sets .entry))
+        (slotsOf (now (heads .entry)) (now (links .entry)) location) nothingSeen ⌝ }
+{
+    let mut seen = Seen {
+        visits: 0,
+        race: 0,
+        covered: false,
+        dropped: 0,
+        stray: false,
+        last: 0,
+    };
+    let mut at = heads[location];
+    while at != 0 {
+        let slot = (at - 1) as usize;
+        seen = weigh(
+            seen,
+            at,
+            ProcedureNumber(procedures[slot]),
+            sets[slot],
+            entry,
+            pairs,
+            starts,
+            joins,
+        );
+        at = links[slot];
+    }
+    seen
+}
+
+// The entry that a link names.
+fn race_at(at: u32, events: &[u32], procedures: &[u32], sets: &[u64]) -> Race
+    requires { ⌜ at ≤ length (now events) ⌝ }
+    requires { ⌜ at ≤ length (now procedures) ⌝ }
+    requires { ⌜ at ≤ length (now sets) ⌝ }
+    ensures { λ r. ⌜ r ≡ raceAt (now (events .entry)) (now (procedures .entry)) (now (sets .entry)) at ⌝ }
+{
+    if at == 0 {
+        return Race::Nobody;
+    }
+    let slot = (at - 1) as usize;
+    Race::With(Entry {
+        event: EventNumber(events[slot]),
+        procedure: ProcedureNumber(procedures[slot]),
+        locks: sets[slot],
+    })
+}
+
+// What comes after the entry that `last` names, or first in the location's list where it names none, is now what `to` leads to.
+fn relink(heads: &mut [u32], links: &mut [u32], location: usize, last: u32, to: u32)
+    requires { ⌜ location < length (now heads) ⌝ }
+    requires { ⌜ last ≤ length (now links) ⌝ }
+    ensures heads { λ _. ⌜ now (heads .exit) ≡ headsLinked last location to (now (heads .entry)) ⌝ }
+    ensures links { λ _. ⌜ now (links .exit) ≡ linksLinked last to (now (links .entry)) ⌝ }
+{
+    if last == 0 {
+        heads[location] = to;
+    } else {
+        links[(last - 1) as usize] = to;
+    }
+}
+
+// Is the entry of that procedure, with those locks, dropped?
+fn drops(
+    procedure: ProcedureNumber,
+    locks: u64,
+    entry: Entry,
+    pairs: Pairs,
+    starts: &[u32],
+    joins: &[u32],
+) -> bool
+    requires { ⌜ BagsRoom (now starts) (now joins) pairs ⌝ }
+    ensures { λ r. ⌜ r ≡ dropped (parallelBy (bagsIn (now (starts .entry)) (now (joins .entry)) pairs)) entry (entryOf (procedure .0) locks) ⌝ }
+{
+    if !within(entry.locks, locks) {
+        return false;
+    }
+    !says_parallel(pairs.ask(starts, joins, procedure))
+}
+
+// The entries to be dropped, so many, are unlinked and their slots freed.
+fn prune(
+    heads: &mut [u32],
+    links: &mut [u32],
+    procedures: &[u32],
+    sets: &[u64],
+    location: usize,
+    entry: Entry,
+    slots: Slots,
+    count: u32,
+    pairs: Pairs,
+    starts: &[u32],
+    joins: &[u32],
+) -> Slots
+    requires { ⌜ BagsRoom (now starts) (now joins) pairs ⌝ }
+    requires { ⌜ location < pieceSize ⌝ }
+    requires { ⌜ pieceSize ≤ length (now heads) ⌝ }
+    requires { ⌜ pieceSize ≤ length (now links) ⌝ }
+    requires { ⌜ pieceSize ≤ length (now procedures) ⌝ }
+    requires { ⌜ pieceSize ≤ length (now sets) ⌝ }
+    requires { ⌜ LaidOut (now heads) (now links) slots (slotsOf (now heads) (now links)) (slotsFreed (now links) slots) ⌝ }
+    requires { ⌜ count ≡ howMany (dropsBy (bagsIn (now starts) (now joins) pairs) entry (now procedures) (now sets)) (slotsOf (now heads) (now links) location) ⌝ }
+    ensures { λ r.
+        ⌜ Pruned (dropsBy (bagsIn (now (starts .entry)) (now (joins .entry)) pairs) entry (now (procedures .entry)) (now (sets .entry))) location
+        (now (heads .entry)) (now (links .entry)) slots (now (heads .exit)) (now (links .exit)) r ⌝ }
+{
+    let mut freed = slots.freed;
+    let mut last = 0;
+    let mut at = heads[location];
+    let mut left = count;
+    while left != 0 {
+        let slot = (at - 1) as usize;
+        let next = links[slot];
+        if drops(
+            ProcedureNumber(procedures[slot]),
+            sets[slot],
+            entry,
+            pairs,
+            starts,
+            joins,
+        ) {
+            relink(heads, links, location, last, next);
+            links[slot] = freed;
+            freed = at;
+            left -= 1;
+        } else {
+            last = at;
+        }
+        at = next;
+    }
+    Slots {
+        freed: freed,
+        used: slots.used,
+    }
+}
+
+// The slot for the next entry is the one freed last, or else the first never used.
+fn slot_for(slots: Slots) -> u32
+    ensures { λ r. ⌜ r ≡ slotFor slots ⌝ }
+{
+    if slots.freed == 0 {
+        slots.used
+    } else {
+        slots.freed - 1
+    }
+}
+
+// Which slots hold no entry once that one does.
+fn slots_then(links: &[u32], slots: Slots) -> Slots
+    requires { ⌜ slots .freed ≤ length (now links) ⌝ }
+    requires { ⌜ slots .used ≤ pieceSize ⌝ }
+    ensures { λ r. ⌜ r ≡ slotsThen (now (links .entry)) slots ⌝ }
+{
+    if slots.freed == 0 {
+        return Slots {
+            freed: 0,
+            used: slots.used + 1,
+        };
+    }
+    Slots {
+        freed: links[(slots.freed - 1) as usize],
+        used: slots.used,
+    }
+}
+
+// The entry is put at the end of a location's list, after the entry that `last` names.
+fn append(
+    heads: &mut [u32],
+    links: &mut [u32],
+    events: &mut [u32],
+    procedures: &mut [u32],
+    sets: &mut [u64],
+    location: usize,
+    last: u32,
+    entry: Entry,
+    slots: Slots,
+) -> Slots
+    requires { ⌜ location < length (now heads) ⌝ }
+    requires { ⌜ last ≤ pieceSize ⌝ }
+    requires { ⌜ slots .freed ≤ pieceSize ⌝ }
+    requires { ⌜ slots .used ≤ pieceSize ⌝ }
+    requires { ⌜ slotFor slots < pieceSize ⌝ }
+    requires { ⌜ pieceSize ≤ length (now links) ⌝ }
+    requires { ⌜ pieceSize ≤ length (now events) ⌝ }
+    requires { ⌜ pieceSize ≤ length (now procedures) ⌝ }
+    requires { ⌜ pieceSize ≤ length (now sets) ⌝ }
+    ensures result { λ r. ⌜ r ≡ slotsThen (now (links .entry)) slots ⌝ }
+    ensures heads { λ _. ⌜ now (heads .exit) ≡ headsLinked last location (slotFor slots + 1) (now (heads .entry)) ⌝ }
+    ensures links { λ _. ⌜ now (links .exit) ≡ linksLinked last (slotFor slots + 1) (set (now (links .entry)) (slotFor slots) 0) ⌝ }
+    ensures events { λ _. ⌜ now (events .exit) ≡ set (now (events .entry)) (slotFor slots) (entry .event .0) ⌝ }
+    ensures procedures { λ _. ⌜ now (procedures .exit) ≡ set (now (procedures .entry)) (slotFor slots) (entry .procedure .0) ⌝ }
+    ensures sets { λ _. ⌜ now (sets .exit) ≡ set (now (sets .entry)) (slotFor slots) (entry .locks) ⌝ }
+{
+    let number = slot_for(slots);
+    let then = slots_then(links, slots);
+    let slot = number as usize;
+    links[slot] = 0;
+    events[slot] = entry.event.0;
+    procedures[slot] = entry.procedure.0;
+    sets[slot] = entry.locks;
+    relink(heads, links, location, last, number + 1);
+    then
+}
