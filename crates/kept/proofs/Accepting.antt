@@ -7,7 +7,7 @@ use mathlib.Core.Logic.{_≢_}
 use mathlib.Core.List.{List, [], _∷_, _++_, map, append-nil}
 use native.Mathlib.Omega.{arith}
 use lib.Dec.{eqb, ltb, eqb·suc-zero}
-use lib.ListN.{length, getD, set, drop, length-map, length-append}
+use lib.ListN.{length, getD, set, drop, length-map, length-append, length-set}
 use lib.Seq.{drop-drop}
 use borrow.Author.Tests.{eqb-true, eqb-false, ltb-false, eq-eqb, ne-eqb, lt-ltb, le-ltb}
 use Rattle.bags.specs.Bags.{Bags}
@@ -24,7 +24,7 @@ use Rattle.kept.specs.Access.{drops, isLeftOut, slotsLeft, pool, slotsAf
 use Rattle.kept.specs.Parts.{isFull, raceAt, headsLinked, linksLinked, dropsBy, howMany, Pruned, slotFor, slotsThen}
 use Rattle.kept.proofs.Lists.{either-way}
 use Rattle.kept.proofs.Sums.{sum-agree, sum-changed}
-use Rattle.kept.proofs.Chains.{lastOf, chain-link}
+use Rattle.kept.proofs.Chains.{lastOf, chain-link, linked-heads-length, linked-length}
 use Rattle.kept.proofs.Laid.{place-here, place-twice, laid-last, laid-first, laid-next, laid-then, laid-appended, appended-links-rest, linked-heads-rest}
 use Rattle.kept.proofs.Telling.{Told}
 
@@ -190,13 +190,15 @@ module _ (bs : List Bags) (x : ℕ) (e : Entry) (p : Pieces) (slots : Slots) (ro
         )
 
     -- The entry is added.
-    pub entry-added : seen .covered ≡ false → isFull seen slots ≡ false → pieceSize ≤ length heads₁ → pieceSize ≤ length links₁
+    pub entry-added : seen .covered ≡ false → isFull seen slots ≡ false
         → {r : Slots} {heads′ links′ events′ procedures′ sets′ : List ℕ} → r ≡ slotsThen links₁ slots₁
         → heads′ ≡ headsLinked (seen .last) x (slotFor slots₁ + 1) heads₁ → links′ ≡ linksLinked (seen .last) (slotFor slots₁ + 1) (set links₁ (slotFor slots₁) 0)
         → events′ ≡ set (p .events) (slotFor slots₁) (e .event .0) → procedures′ ≡ set (p .procedures) (slotFor slots₁) (e .procedure .0)
         → sets′ ≡ set (p .sets) (slotFor slots₁) (e .locks)
         → (r ≡ slotsAfter bs x e p slots) × Accepted bs x e p slots (pieces heads′ links′ events′ procedures′ sets′)
-    entry-added uncovered room-left heads-fit links-fit {r} {heads′} {links′} {events′} {procedures′} {sets′} r-is heads-is links-is events-is procedures-is sets-is =
+    entry-added uncovered room-left {r} {heads′} {links′} {events′} {procedures′} {sets′} r-is heads-is links-is events-is procedures-is sets-is =
+        let heads-fit : pieceSize ≤ length heads₁ = omega (arith, room .fits .heads-fit, pruned .heads-rest .same-length) in
+        let links-fit : pieceSize ≤ length links₁ = omega (arith, room .fits .links-fit, pruned .links-rest .same-length) in
         let out : isLeftOut bs x e p slots ≡ false = sym (told .covered-told) ∙ uncovered in
         let next = nextSlot freed₁ (slots .used) in
         let next-fit = next-fits uncovered room-left in
@@ -216,8 +218,16 @@ module _ (bs : List Bags) (x : ℕ) (e : Entry) (p : Pieces) (slots : Slots) (ro
           rw out (r-is ∙ then-is ∙ ap (λ (u : ℕ). record { freed = linkTo (freedThen freed₁); used = usedThen freed₁ u }) (pruned .same-used)),
           record {
             laid-out = rw (out, heads-now, links-now) (rw (place, pruned .same-used, twice) at laid);
-            heads-rest = rw heads-now (linked-heads-rest (lastOf left-is) x (suc next) heads₁ here ∙ pruned .heads-rest);
-            links-rest = rw (out, links-now) ((rw (place, pruned .same-used) at rest) ∙ past-used freed₁ (slots .used) links₁ (p .links) (pruned .links-rest));
+            heads-rest = record {
+              same-length = ap length heads-now ∙ linked-heads-length (lastOf left-is) x (suc next) heads₁ ∙ pruned .heads-rest .same-length;
+              same-rest = rw heads-now (linked-heads-rest (lastOf left-is) x (suc next) heads₁ here ∙ pruned .heads-rest .same-rest);
+            };
+            links-rest = record {
+              same-length =
+                  ap length links-now ∙ linked-length (lastOf left-is) (suc next) (set links₁ next 0) ∙ length-set links₁ next 0 ∙ pruned .links-rest .same-length;
+              same-rest =
+                  rw (out, links-now) ((rw (place, pruned .same-used) at rest) ∙ past-used freed₁ (slots .used) links₁ (p .links) (pruned .links-rest .same-rest));
+            };
             events = rw out (events-is ∙ ap (λ (n : ℕ). set (p .events) n (e .event .0)) next-is);
             procedures = rw out (procedures-is ∙ ap (λ (n : ℕ). set (p .procedures) n (e .procedure .0)) next-is);
             sets = rw out (sets-is ∙ ap (λ (n : ℕ). set (p .sets) n (e .locks)) next-is);

@@ -114,6 +114,10 @@ chain-frame links p v at (s ∷ ss) away chain =
 -- ---- a new link after some slots
 
 -- Setting a link keeps how many there are.
+pub linked-heads-length : (last x v : ℕ) (heads : List ℕ) → length (headsLinked last x v heads) ≡ length heads
+linked-heads-length zero x v heads = length-set heads x v
+linked-heads-length (suc p) x v heads = refl
+
 pub linked-length : (last v : ℕ) (links : List ℕ) → length (linksLinked last v links) ≡ length links
 linked-length zero v links = refl
 linked-length (suc p) v links = length-set links p v

@@ -152,23 +152,6 @@ linked-links-rest : (last to n : ℕ) (links : List ℕ) → last ≤ n → drop
 linked-links-rest zero to n links h = refl
 linked-links-rest (suc p) to n links h = drop-set-lt n links p to h
 
--- Lists that agree below n and past it are the same.
-same-below-and-past : (n : ℕ) (l l′ : List ℕ) → n ≤ length l → n ≤ length l′ → drop n l ≡ drop n l′
-    → ((i : ℕ) → i < n → getD l i 0 ≡ getD l′ i 0) → l ≡ l′
-same-below-and-past n l l′ fit fit′ past below = ext-getD 0 l l′ same-length same
-  where
-    same-length : length l ≡ length l′
-    same-length = let lengths : length l - n ≡ length l′ - n = sym (length-drop n l) ∙ ap length past ∙ length-drop n l′ in omega arith
-
-    same : (i : ℕ) → i < length l → getD l i 0 ≡ getD l′ i 0
-    same i h =
-        elim (decLt i n) [
-          | yes before ↦ below i before
-          | no not-before ↦
-              let place : n + (i - n) ≡ i = omega arith in
-              rw (← place) (sym (getD-drop n l (i - n) 0) ∙ ap (λ (r : List ℕ). getD r (i - n) 0) past ∙ getD-drop n l′ (i - n) 0)
-        ]
-
 -- ---- a new link in one list
 
 -- If the slots of one list stand in no other, then all are chains when that one goes on after some of its slots with what a new link leads to.
@@ -201,12 +184,12 @@ module _ (heads links : List ℕ) (slots : Slots) (lists : ℕ → List ℕ) (fr
   laid-freed-few = omega (arith, laid .total, laid .used-fit)
 
   -- A slot stands at most once in a list and among those freed together, and in two lists together.
-  stands-once : (y s : ℕ) → y < pieceSize → timesIn s (lists y) + timesIn s freed ≤ 1
+  pub stands-once : (y s : ℕ) → y < pieceSize → timesIn s (lists y) + timesIn s freed ≤ 1
   stands-once y s h =
       let within = sum-term pieceSize (λ z. timesIn s (lists z)) y h in
       omega (arith, laid .once s, used-once s (slots .used))
 
-  stands-in-one : (x y s : ℕ) → x < pieceSize → y < pieceSize → y ≢ x → timesIn s (lists x) + timesIn s (lists y) ≤ 1
+  pub stands-in-one : (x y s : ℕ) → x < pieceSize → y < pieceSize → y ≢ x → timesIn s (lists x) + timesIn s (lists y) ≤ 1
   stands-in-one x y s h k different =
       let within = sum-two-terms pieceSize (λ z. timesIn s (lists z)) x y h k different in
       omega (arith, laid .once s, used-once s (slots .used))
@@ -456,30 +439,3 @@ module _ (heads links : List ℕ) (slots : Slots) (lists : ℕ → List ℕ) (fr
           let last = laid-last x (lists x) [] x-fit (sym (append-nil (lists x))) in
           linked-links-rest (lastOf (lists x)) (suc next) (usedThen freed (slots .used)) linksEnded (omega (arith, then-used freed (slots .used)))
           ∙ drop-set-lt (usedThen freed (slots .used)) links next 0 next-used
-
--- The layout, and what lies past it, determine heads and links.
-pub laid-determines : (heads links heads′ links′ : List ℕ) (slots : Slots) (lists : ℕ → List ℕ) (freed : List ℕ)
-    → LaidOut heads links slots lists freed → LaidOut heads′ links′ slots lists freed
-    → pieceSize ≤ length heads → pieceSize ≤ length links → pieceSize ≤ length heads′ → pieceSize ≤ length links′
-    → drop pieceSize heads ≡ drop pieceSize heads′ → drop (slots .used) links ≡ drop (slots .used) links′
-    → (heads ≡ heads′) × (links ≡ links′)
-laid-determines heads links heads′ links′ slots lists freed laid laid′ heads-fit links-fit heads-fit′ links-fit′ heads-past links-past = (
-  same-below-and-past pieceSize heads heads′ heads-fit heads-fit′ heads-past same-head,
-  same-below-and-past (slots .used) links links′ (omega (arith, laid .used-fit)) (omega (arith, laid .used-fit)) links-past same-link,
-)
-  where
-    same-head : (y : ℕ) → y < pieceSize → getD heads y 0 ≡ getD heads′ y 0
-    same-head y h =
-        chain-link links (getD heads y 0) (lists y) (laid .chains y h) ∙ sym (chain-link links′ (getD heads′ y 0) (lists y) (laid′ .chains y h))
-
-    same-link : (s : ℕ) → s < slots .used → getD links s 0 ≡ getD links′ s 0
-    same-link s h =
-        elim (decLt 0 (timesIn s freed)) [
-          | yes stands ↦ chain-determines links links′ (slots .freed) (slots .freed) freed s (laid .freed-chain) (laid′ .freed-chain) stands
-          | no not-freed ↦
-              let one : sumBelow pieceSize (λ y. timesIn s (lists y)) + timesIn s freed ≡ 1 = rw (lt-ltb s (slots .used) h) at (laid .once s) in
-              let found = sum-some pieceSize (λ y. timesIn s (lists y)) (omega arith) in
-              let y = found .0 in
-              chain-determines links links′ (getD heads y 0) (getD heads′ y 0) (lists y) s (laid .chains y (found .1)) (laid′ .chains y (found .1))
-              (found .2)
-        ]

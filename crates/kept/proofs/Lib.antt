@@ -1,6 +1,7 @@
 pub mod Lists
 pub mod Covering
 pub mod Linking
+pub mod Clearing
 pub mod Visits
 pub mod Sums
 pub mod Chains
@@ -8,4 +9,8 @@ pub mod Laid
 pub mod Pruning
 pub mod Telling
 pub mod Accepting
+pub mod Meaning
+pub mod Determined
+pub mod Laws
+pub mod NoTwoOutcomes
 pub mod Examples

@@ -5,14 +5,14 @@ use mathlib.Core.Path.{_≡_, refl, sym, ap, _∙_, subst}
 use mathlib.Core.Bool.{Bool, true, false, cond, not}
 use mathlib.Core.List.{List, [], _∷_, _++_, append-assoc, append-nil}
 use native.Mathlib.Omega.{arith}
-use lib.ListN.{length, getD, set, drop, length-set, length-append, length-drop}
+use lib.ListN.{length, getD, set, drop, length-set, length-append}
 use Rattle.kept.specs.declared.Slots.{Slots}
 use Rattle.kept.specs.Lists.{those}
-use Rattle.kept.specs.Pieces.{pieceSize, slotsFrom, slotsOf, slotsFreed, Chain, LaidOut}
+use Rattle.kept.specs.Pieces.{pieceSize, slotsFrom, slotsOf, slotsFreed, Chain, LaidOut, RestKept}
 use Rattle.kept.specs.Access.{placeAt, freeing, linkTo}
 use Rattle.kept.specs.Parts.{headsLinked, linksLinked, howMany, Pruned}
 use Rattle.kept.proofs.Lists.{either-way}
-use Rattle.kept.proofs.Chains.{lastOf, chain-slots, chain-link, chain-rest, linked-length}
+use Rattle.kept.proofs.Chains.{lastOf, chain-slots, chain-link, linked-heads-length, linked-length}
 use Rattle.kept.proofs.Laid.{place-same, place-twice, place-here, laid-few, laid-last, laid-detached, detached-links-rest, linked-heads-rest}
 
 -- ---- lists of which none is dropped
@@ -40,15 +40,6 @@ last-of-more [] s = refl
 last-of-more (p ∷ []) s = refl
 last-of-more (p ∷ q ∷ ps) s = last-of-more (q ∷ ps) s
 
--- Relinking keeps the heads' length.
-linked-heads-length : (last x to : ℕ) (heads : List ℕ) → length (headsLinked last x to heads) ≡ length heads
-linked-heads-length zero x to heads = length-set heads x to
-linked-heads-length (suc s) x to heads = refl
-
--- Two lists with the same rest, past a part that both have, have the same length.
-same-length-by-rest : (n : ℕ) (a b : List ℕ) → n ≤ length a → n ≤ length b → drop n a ≡ drop n b → length a ≡ length b
-same-length-by-rest n a b h k same = omega (arith, length-drop n a, length-drop n b, ap length same)
-
 -- A chain through two lists goes on through the second.
 chain-on : (links : List ℕ) (at : ℕ) (ps rest : List ℕ) → Chain links at (ps ++ rest) → Chain links (linkTo rest) rest
 unfolding Chain
@@ -69,16 +60,14 @@ module _ (drops : ℕ → Bool) (x : ℕ) (heads₀ links₀ : List ℕ) (slots 
     pub counted : left ≡ howMany drops ahead
     pub stayed : those (stays drops) whole ≡ passed ++ those (stays drops) ahead
     pub gone : freeing drops whole (slotsFreed links₀ slots) ≡ freeing drops ahead pool
-    pub heads-fit : pieceSize ≤ length heads
-    pub links-fit : pieceSize ≤ length links
-    pub heads-rest : drop pieceSize heads ≡ drop pieceSize heads₀
-    pub links-rest : drop (slots .used) links ≡ drop (slots .used) links₀
+    pub heads-rest : RestKept pieceSize heads₀ heads
+    pub links-rest : RestKept (slots .used) links₀ links
 
-  pub prune-begins : (count : ℕ) → x < pieceSize → pieceSize ≤ length heads₀ → pieceSize ≤ length links₀
+  pub prune-begins : (count : ℕ) → x < pieceSize
       → LaidOut heads₀ links₀ slots (slotsOf heads₀ links₀) (slotsFreed links₀ slots) → count ≡ howMany drops whole
       → Pruning heads₀ links₀ (slots .freed) 0 (getD heads₀ x 0) count
   unfolding lastOf
-  prune-begins count here heads-fit links-fit laid counted = record {
+  prune-begins count here laid counted = record {
     passed = [];
     ahead = whole;
     pool = slotsFreed links₀ slots;
@@ -88,10 +77,8 @@ module _ (drops : ℕ → Bool) (x : ℕ) (heads₀ links₀ : List ℕ) (slots 
     counted = counted;
     stayed = refl;
     gone = refl;
-    heads-fit = heads-fit;
-    links-fit = links-fit;
-    heads-rest = refl;
-    links-rest = refl;
+    heads-rest = record { same-length = refl; same-rest = refl };
+    links-rest = record { same-length = refl; same-rest = refl };
   }
 
   module _ (here : x < pieceSize) (heads links : List ℕ) (freed last at left : ℕ) (w : Pruning heads links freed last at left) where
@@ -121,11 +108,11 @@ module _ (drops : ℕ → Bool) (x : ℕ) (heads₀ links₀ : List ℕ) (slots 
             (omega arith, omega (arith, chain .1), omega (arith, last-fit, w .named, w .laid .used-fit))
 
     -- A slot that is dropped is detached and freed.
-    pub prune-drops : (heads′ links′ : List ℕ) → (left ≡ 0 → ⊥) → drops (at - 1) ≡ true → heads′ ≡ headsLinked last x (getD links (at - 1) 0) heads
-        → links′ ≡ linksLinked last (getD links (at - 1) 0) links
+    pub prune-drops : pieceSize ≤ length heads₀ → pieceSize ≤ length links₀ → (heads′ links′ : List ℕ) → (left ≡ 0 → ⊥) → drops (at - 1) ≡ true
+        → heads′ ≡ headsLinked last x (getD links (at - 1) 0) heads → links′ ≡ linksLinked last (getD links (at - 1) 0) links
         → (w′ : Pruning heads′ (set links′ (at - 1) freed) at last (getD links (at - 1) 0) (left - 1)) × (suc (length (w′ .ahead)) ≡ length (w .ahead))
     unfolding Chain those freeing
-    prune-drops heads′ links′ ne falls heads-linked links-linked =
+    prune-drops heads-fit links-fit heads′ links′ ne falls heads-linked links-linked =
         rw (heads-linked, links-linked) (go (w .ahead) refl (w .leads) (w .counted) ahead-chain)
       where
         go : (ss : List ℕ) → w .ahead ≡ ss → at ≡ linkTo ss → left ≡ howMany drops ss → Chain links (linkTo ss) ss
@@ -139,30 +126,31 @@ module _ (drops : ℕ → Bool) (x : ℕ) (heads₀ links₀ : List ℕ) (slots 
             let lists : ℕ → List ℕ = placeAt x (w .passed ++ w .ahead) (slotsOf heads₀ links₀) in
             let split : lists x ≡ w .passed ++ s ∷ ss =
             place-here x (w .passed ++ w .ahead) (slotsOf heads₀ links₀) ∙ ap (λ (t : List ℕ). w .passed ++ t) same in
+            let next = getD links s 0 in
+            let last-link = lastOf (w .passed) in
+            let heads-now-fit : pieceSize ≤ length heads = omega (arith, w .heads-rest .same-length) in
+            let links-now-fit : pieceSize ≤ length links = omega (arith, w .links-rest .same-length) in
+            let out = laid-detached heads links slots′ lists (w .pool) (w .laid) heads-now-fit links-now-fit x here (w .passed) s ss split in
+            let rest = detached-links-rest heads links slots′ lists (w .pool) (w .laid) heads-now-fit links-now-fit x here (w .passed) s ss split in
             rw (at-slot, leads, w .named) (
               record {
                 passed = w .passed;
                 ahead = ss;
                 pool = s ∷ w .pool;
-                laid =
-                    rw (sym (place-twice x (w .passed ++ w .ahead) (w .passed ++ ss) (slotsOf heads₀ links₀)))
-                    (laid-detached heads links slots′ lists (w .pool) (w .laid) (w .heads-fit) (w .links-fit) x here (w .passed) s ss split);
+                laid = rw (sym (place-twice x (w .passed ++ w .ahead) (w .passed ++ ss) (slotsOf heads₀ links₀))) out;
                 named = refl;
-                leads = chain-link links (getD links s 0) ss (chain .2);
+                leads = chain-link links next ss (chain .2);
                 counted = omega (arith, rw falls-here at counted);
                 stayed = rw (same, falls-here) at (w .stayed);
                 gone = rw (same, falls-here) at (w .gone);
-                heads-fit = omega (arith, w .heads-fit, linked-heads-length (lastOf (w .passed)) x (getD links s 0) heads);
-                links-fit =
-                    omega (
-                      arith,
-                      w .links-fit,
-                      length-set (linksLinked (lastOf (w .passed)) (getD links s 0) links) s freed,
-                      linked-length (lastOf (w .passed)) (getD links s 0) links,
-                    );
-                heads-rest = linked-heads-rest (lastOf (w .passed)) x (getD links s 0) heads here ∙ w .heads-rest;
-                links-rest =
-                    detached-links-rest heads links slots′ lists (w .pool) (w .laid) (w .heads-fit) (w .links-fit) x here (w .passed) s ss split ∙ w .links-rest;
+                heads-rest = record {
+                  same-length = linked-heads-length last-link x next heads ∙ w .heads-rest .same-length;
+                  same-rest = linked-heads-rest last-link x next heads here ∙ w .heads-rest .same-rest;
+                };
+                links-rest = record {
+                  same-length = length-set (linksLinked last-link next links) s freed ∙ linked-length last-link next links ∙ w .links-rest .same-length;
+                  same-rest = rest ∙ w .links-rest .same-rest;
+                };
               },
               rw same refl,
             )
@@ -191,8 +179,6 @@ module _ (drops : ℕ → Bool) (x : ℕ) (heads₀ links₀ : List ℕ) (slots 
                 counted = rw stays-here at counted;
                 stayed = rw (append-assoc (w .passed) (s ∷ []) (those (stays drops) ss)) (rw (same, stays-here) at (w .stayed));
                 gone = rw (same, stays-here) at (w .gone);
-                heads-fit = w .heads-fit;
-                links-fit = w .links-fit;
                 heads-rest = w .heads-rest;
                 links-rest = w .links-rest;
               },
@@ -216,11 +202,3 @@ module _ (drops : ℕ → Bool) (x : ℕ) (heads₀ links₀ : List ℕ) (slots 
       → length (slotsFrom pieceSize links′ at′) < length (slotsFrom pieceSize links at)
   prune-falls here heads links freed last at left heads′ links′ freed′ last′ at′ left′ w w′ less =
       rw (prune-walk here heads links freed last at left w, prune-walk here heads′ links′ freed′ last′ at′ left′ w′) (omega arith)
-
-  -- Nothing grows.
-  pub prune-lengths : pieceSize ≤ length heads₀ → pieceSize ≤ length links₀ → slots .used ≤ pieceSize → (heads links : List ℕ) (freed last at left : ℕ)
-      → Pruning heads links freed last at left → (length heads ≡ length heads₀) × (length links ≡ length links₀)
-  prune-lengths heads-fit links-fit used-fit heads links freed last at left w = (
-    same-length-by-rest pieceSize heads heads₀ (w .heads-fit) heads-fit (w .heads-rest),
-    same-length-by-rest (slots .used) links links₀ (omega (arith, w .links-fit)) (omega arith) (w .links-rest),
-  )

@@ -185,8 +185,8 @@ module _ (bs : List Bags) (x : ℕ) (e : Entry) (p : Pieces) (slots : Slots) whe
 -- Where the pieces hold lists, each can be walked.
 pub room-walkable : (p : Pieces) (slots : Slots) (x : ℕ) → Room p slots → x < pieceSize → Walkable (p .heads) (p .links) x
 room-walkable p slots x room here = record {
-  head-fit = omega (arith, room .heads-fit);
-  links-fit = room .links-fit;
+  head-fit = omega (arith, room .fits .heads-fit);
+  links-fit = room .fits .links-fit;
   chain = room .laid-out .chains x here;
   few = laid-few (p .heads) (p .links) slots (slotsOf (p .heads) (p .links)) (slotsFreed (p .links) slots) (room .laid-out) x here;
 }

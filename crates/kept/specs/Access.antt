@@ -5,7 +5,7 @@ use mathlib.Core.Bool.{Bool, cond, not}
 use mathlib.Core.List.{List, [], _∷_, _++_}
 use mathlib.Core.Option.{Option, none, some}
 use lib.Dec.{eqb, ltb}
-use lib.ListN.{length, set, drop}
+use lib.ListN.{length, set}
 use Rattle.bags.specs.Bags.{Bags, inPBag, inSomeBag}
 use Rattle.kept.specs.declared.Entry.{Entry}
 use Rattle.kept.specs.declared.Slots.{Slots}
@@ -15,7 +15,7 @@ use Rattle.kept.specs.declared.Accessed.{Accessed}
 use Rattle.kept.specs.declared.Accessed.the-variants.{Done, InNoBag, Full}
 use Rattle.kept.specs.Lists.{any, those}
 use Rattle.kept.specs.Rules.{named, dropped, leavesOut, after, Lists, changedAt, inAll}
-use Rattle.kept.specs.Pieces.{Pieces, pieceSize, slotsOf, slotsFreed, entryAt, listsIn, LaidOut}
+use Rattle.kept.specs.Pieces.{Pieces, pieceSize, slotsOf, slotsFreed, entryAt, listsIn, LaidOut, RestKept}
 
 -- The bags' yes or no, of an entry; and whether its procedure is in no bag.
 abbrev pub parallelBy : List Bags → Entry → Bool
@@ -102,8 +102,8 @@ module _ (bs : List Bags) (x : ℕ) (e : Entry) (p : Pieces) (slots : Slots) whe
   -- What is left where nothing is refused. The links of slots never used, and all that lies past 4,096, are kept.
   pub record Accepted (p′ : Pieces) : Type 0 where
     pub laid-out : LaidOut (p′ .heads) (p′ .links) slotsAfter (placeAt x slotsHere (slotsOf (p .heads) (p .links))) freedAfter
-    pub heads-rest : drop pieceSize (p′ .heads) ≡ drop pieceSize (p .heads)
-    pub links-rest : drop (slotsAfter .used) (p′ .links) ≡ drop (slotsAfter .used) (p .links)
+    pub heads-rest : RestKept pieceSize (p .heads) (p′ .heads)
+    pub links-rest : RestKept (slotsAfter .used) (p .links) (p′ .links)
     pub events : p′ .events ≡ stored (e .event .0) (p .events)
     pub procedures : p′ .procedures ≡ stored (e .procedure .0) (p .procedures)
     pub sets : p′ .sets ≡ stored (e .locks) (p .sets)

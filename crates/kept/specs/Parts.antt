@@ -4,7 +4,7 @@ use mathlib.Core.Path.{_≡_}
 use mathlib.Core.Bool.{Bool, true, false, cond, not, _&&_, _||_}
 use mathlib.Core.List.{List, [], _∷_}
 use lib.Dec.{eqb}
-use lib.ListN.{length, getD, set, drop}
+use lib.ListN.{length, getD, set}
 use Rattle.bags.specs.declared.ask.Answer.{Answer}
 use Rattle.bags.specs.declared.ask.Answer.the-variants.{InSeries, InParallel, InNoBag}
 use Rattle.bags.specs.Bags.{Bags}
@@ -15,7 +15,7 @@ use Rattle.kept.specs.declared.Race.{Race}
 use Rattle.kept.specs.declared.Race.the-variants.{Nobody, With}
 use Rattle.kept.specs.Lists.{those}
 use Rattle.kept.specs.Rules.{races, dropped, leavesOut}
-use Rattle.kept.specs.Pieces.{pieceSize, slotsOf, slotsFreed, Chain, LaidOut}
+use Rattle.kept.specs.Pieces.{pieceSize, slotsOf, slotsFreed, Chain, LaidOut, RestKept}
 use Rattle.kept.specs.Access.{parallelBy, inNoBag, placeAt, freeing}
 
 -- The bags' answer says that a procedure is in no bag.
@@ -87,8 +87,8 @@ pub record Pruned (drops : ℕ → Bool) (x : ℕ) (heads links : List ℕ) (slo
   pub laid-out : LaidOut heads′ links′ slots′ (placeAt x (those (λ s. not (drops s)) (slotsOf heads links x)) (slotsOf heads links))
       (freeing drops (slotsOf heads links x) (slotsFreed links slots))
   pub same-used : slots′ .used ≡ slots .used
-  pub heads-rest : drop pieceSize heads′ ≡ drop pieceSize heads
-  pub links-rest : drop (slots .used) links′ ≡ drop (slots .used) links
+  pub heads-rest : RestKept pieceSize heads heads′
+  pub links-rest : RestKept (slots .used) links links′
 
 -- The slot for the next entry, and which hold none then.
 abbrev pub slotFor : Slots → ℕ

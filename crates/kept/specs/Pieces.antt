@@ -2,9 +2,9 @@
 use Prim.Native.Nat.{ℕ, zero, suc, _+_, _≤_, _<_}
 use mathlib.Core.Path.{_≡_}
 use mathlib.Core.Bool.{cond}
-use mathlib.Core.List.{List, [], _∷_, map}
+use mathlib.Core.List.{List, [], _∷_, _++_, map}
 use lib.Dec.{eqb, ltb}
-use lib.ListN.{length, getD}
+use lib.ListN.{length, getD, drop, replicate}
 use Rattle.kept.specs.declared.Entry.{Entry}
 use Rattle.kept.specs.declared.Slots.{Slots}
 use Rattle.kept.specs.Lists.{sumBelow}
@@ -64,16 +64,27 @@ pub record LaidOut (heads links : List ℕ) (slots : Slots) (lists : ℕ → Lis
   pub once : (s : ℕ) → sumBelow pieceSize (λ y. timesIn s (lists y)) + timesIn s freed ≡ cond (ltb s (slots .used)) 1 0
   pub total : sumBelow pieceSize (λ y. length (lists y)) + length freed ≡ slots .used
 
--- The pieces are long enough, and hold lists.
-pub record Room (p : Pieces) (slots : Slots) : Type 0 where
+-- The pieces are long enough; and they hold lists.
+pub record Fits (p : Pieces) : Type 0 where
   pub heads-fit : pieceSize ≤ length (p .heads)
   pub links-fit : pieceSize ≤ length (p .links)
   pub events-fit : pieceSize ≤ length (p .events)
   pub procedures-fit : pieceSize ≤ length (p .procedures)
   pub sets-fit : pieceSize ≤ length (p .sets)
+
+pub record Room (p : Pieces) (slots : Slots) : Type 0 where
+  pub fits : Fits p
   pub laid-out : LaidOut (p .heads) (p .links) slots (slotsOf (p .heads) (p .links)) (slotsFreed (p .links) slots)
 
--- The pieces hold these lists.
-pub record Holds (lists : Lists) (p : Pieces) (slots : Slots) : Type 0 where
-  pub room : Room p slots
-  pub held : (y : ℕ) → y < pieceSize → listsIn p y ≡ lists y
+-- What a piece has from place n on is kept, and its length.
+pub record RestKept (n : ℕ) (piece piece′ : List ℕ) : Type 0 where
+  pub same-length : length piece′ ≡ length piece
+  pub same-rest : drop n piece′ ≡ drop n piece
+
+-- No slot is used.
+abbrev pub noneUsed : Slots
+noneUsed = record { freed = 0; used = 0 }
+
+-- The first n numbers of a piece are zero, and the rest is as it was.
+unfoldable pub cleared : ℕ → List ℕ → List ℕ
+cleared n piece = replicate n 0 ++ drop n piece

@@ -13,7 +13,7 @@ ghost use Rattle.bags.specs.Bags.{inPBag};
 ghost use Rattle.bags.specs.Runs.{bagsIn, Room as BagsRoom};
 ghost use Rattle.bags.specs.Ask.{saysParallel};
 ghost use Rattle.kept.specs.Rules.{dropped};
-ghost use Rattle.kept.specs.Pieces.{pieceSize, pieces, slotsOf, slotsFreed, listsIn, LaidOut, Room};
+ghost use Rattle.kept.specs.Pieces.{pieceSize, pieces, slotsOf, slotsFreed, listsIn, LaidOut, Fits, Room, noneUsed, cleared};
 ghost use Rattle.kept.specs.Access.{parallelBy, accessed, slotsAfter, AfterAccess};
 ghost use Rattle.kept.specs.Parts.{entryOf, saysNoBag, nothingSeen, weighed, weighedEntry, seenOver, isFull, Walkable, raceAt, headsLinked, linksLinked, dropsBy, howMany, Pruned, slotFor, slotsThen};
 use bags::ask::Answer;
@@ -24,7 +24,7 @@ use locks::within;
 use trace::EventNumber;
 
 // So many locations, and so many slots.
-const PIECE_SIZE: u32 = 4096;
+const PIECE: usize = 4096;
 
 // An access that may be kept: the event's number, the procedure that makes it, and its lock set.
 pub struct Entry {
@@ -71,8 +71,9 @@ impl Seen {
         requires { ⌜ self .dropped ≤ self .visits ⌝ }
         ensures { λ r. ⌜ r ≡ weighed at stray races drops covers self ⌝ }
     {
+        let visits = self.visits + 1;
         Seen {
-            visits: self.visits + 1,
+            visits: visits,
             race: pick(races & (self.race == 0), at, self.race),
             covered: self.covered | covers,
             dropped: pick(drops, self.dropped + 1, self.dropped),
@@ -85,7 +86,7 @@ impl Seen {
     fn is_full(self, slots: Slots) -> bool
         ensures { λ r. ⌜ r ≡ isFull self slots ⌝ }
     {
-        !self.covered & (self.dropped == 0) & (slots.freed == 0) & (slots.used == PIECE_SIZE)
+        !self.covered & (self.dropped == 0) & (slots.freed == 0) & (slots.used as usize == PIECE)
     }
 }
 
@@ -94,6 +95,61 @@ fn pick(so: bool, first: u32, second: u32) -> u32
     ensures { λ r. ⌜ r ≡ cond so first second ⌝ }
 {
     if so { first } else { second }
+}
+
+// There are 4,096 empty lists. What the pieces held before does not matter.
+pub fn empty_lists(heads: &mut [u32]) -> Slots
+    requires { ⌜ pieceSize ≤ length (now heads) ⌝ }
+    ensures result { λ r. ⌜ r ≡ noneUsed ⌝ }
+    ensures heads { λ _. ⌜ now (heads .exit) ≡ cleared pieceSize (now (heads .entry)) ⌝ }
+{
+    clear_numbers(heads);
+    Slots { freed: 0, used: 0 }
+}
+
+// The used part of each piece is zero, and the rest is as it was.
+pub fn clear(
+    heads: &mut [u32],
+    links: &mut [u32],
+    events: &mut [u32],
+    procedures: &mut [u32],
+    sets: &mut [u64],
+)
+    requires { ⌜ Fits (pieces (now heads) (now links) (now events) (now procedures) (now sets)) ⌝ }
+    ensures heads { λ _. ⌜ now (heads .exit) ≡ cleared pieceSize (now (heads .entry)) ⌝ }
+    ensures links { λ _. ⌜ now (links .exit) ≡ cleared pieceSize (now (links .entry)) ⌝ }
+    ensures events { λ _. ⌜ now (events .exit) ≡ cleared pieceSize (now (events .entry)) ⌝ }
+    ensures procedures { λ _. ⌜ now (procedures .exit) ≡ cleared pieceSize (now (procedures .entry)) ⌝ }
+    ensures sets { λ _. ⌜ now (sets .exit) ≡ cleared pieceSize (now (sets .entry)) ⌝ }
+{
+    clear_numbers(heads);
+    clear_numbers(links);
+    clear_numbers(events);
+    clear_numbers(procedures);
+    clear_sets(sets);
+}
+
+// The same of one piece of numbers, and of one piece of lock sets.
+pub fn clear_numbers(piece: &mut [u32])
+    requires { ⌜ pieceSize ≤ length (now piece) ⌝ }
+    ensures { λ _. ⌜ now (piece .exit) ≡ cleared pieceSize (now (piece .entry)) ⌝ }
+{
+    let mut i = 0;
+    while i < PIECE {
+        piece[i] = 0;
+        i += 1;
+    }
+}
+
+pub fn clear_sets(piece: &mut [u64])
+    requires { ⌜ pieceSize ≤ length (now piece) ⌝ }
+    ensures { λ _. ⌜ now (piece .exit) ≡ cleared pieceSize (now (piece .entry)) ⌝ }
+{
+    let mut i = 0;
+    while i < PIECE {
+        piece[i] = 0;
+        i += 1;
+    }
 }
 
 // An access to a location, the bags being as they stand before it. First the list is only read; then come the refusals; and only then do

@@ -1,12 +1,13 @@
 -- `access` looks, refuses or unlinks, and appends: each way out is a law of `Accepting`. Assumes nothing.
-use Prim.Native.Nat.{_≤_, _<_}
+use Prim.Native.Nat.{_<_}
+use mathlib.Core.Bool.{false}
 use mathlib.Core.Path.{_≡_, refl, sym, ap, _∙_}
 use native.Mathlib.Omega.{arith}
-use lib.ListN.{length}
 use borrow.Author.Needs.{needs}
 use Rattle.bags.specs.Runs.{bagsIn}
 use Rattle.kept.specs.Pieces.{Pieces, pieces, pieceSize, Room}
 use Rattle.kept.specs.Access.{accessed}
+use Rattle.kept.specs.Parts.{isFull}
 use Rattle.kept.proofs.Telling.{Told, seen-tells, dropped-counted, room-walkable}
 use Rattle.kept.proofs.Accepting.{answer-no-bag, answer-full, answer-done, left-out, append-fits, entry-added}
 use Rattle.kept.proofs.access.Statement.{statement}
@@ -34,12 +35,15 @@ told : (c : tie.After-look)
     (c .before .before .before .before .before .before .before .before .before .before .before .before .args .slots) (c .look .result)
 told c = seen-tells _ _ _ (lent c) _ (c .look .result) (room-walkable _ _ _ (room c) (here c)) (c .look .ensures)
 
--- The unlinking keeps lengths.
-heads-fit : (c : tie.After-prune) → pieceSize ≤ length (c .prune .last .0)
-heads-fit c = omega (arith, room (c .before .before .before .before .before .before .before .before .before .before .before .before) .heads-fit, c .prune .kept .0)
+-- From where the dropped are out, back to where the list was looked at: it had no stray entry, and there is room.
+abbrev looked : tie.After-prune → tie.After-look
+looked c = c .before .before .before .before .before .before .before .before .before .before .before .before
 
-links-fit : (c : tie.After-prune) → pieceSize ≤ length (c .prune .last .1 .0)
-links-fit c = omega (arith, room (c .before .before .before .before .before .before .before .before .before .before .before .before) .links-fit, c .prune .kept .1 .0)
+not-stray : (c : tie.After-prune) → looked c .look .result .stray ≡ false
+not-stray c = c .before .before .before .before .before .before .before .before .before .before .before .if1 .left
+
+not-full : (c : tie.After-prune) → isFull (looked c .look .result) (looked c .before .before .before .before .before .before .before .before .before .before .before .before .args .slots) ≡ false
+not-full c = sym (c .before .before .before .before .before .before .before .before .before .before .is-full .ensures) ∙ c .before .before .before .before .before .before .before .before .before .if2 .left
 
 look-requires : tie.Need-look-requires
 look-requires c κs = (search needs, (room-walkable (pieces _ _ _ _ _) _ _ (c .before .before .before .before .before .before .before .before .before .before .before .pre .1 .0) (c .before .before .before .before .before .before .before .before .before .before .before .pre .1 .1), (search needs, search needs)))
@@ -76,34 +80,33 @@ same-length-8 c = search needs
 
 returns-2 : tie.Need-returns-2
 returns-2 c =
-    (answer-full _ _ _ _ _ (room (c .before .before .before)) (here (c .before .before .before)) _ (told (c .before .before .before)) _ (c .before .before .if1 .left) (sym (c .before .is-full .ensures) ∙ c .if2 .taken), refl)
+    let at = c .before .before .before in
+    (answer-full _ _ _ _ _ (room at) (here at) _ (told at) _ (c .before .before .if1 .left) (sym (c .before .is-full .ensures) ∙ c .if2 .taken), refl)
 
 race-at-requires : tie.Need-race-at-requires
-race-at-requires c κs = (
-  omega (arith, told (c .before .before .before .before .before .before) .race-fit, room (c .before .before .before .before .before .before) .events-fit),
-  (
-    omega (arith, told (c .before .before .before .before .before .before) .race-fit, room (c .before .before .before .before .before .before) .procedures-fit),
-    omega (arith, told (c .before .before .before .before .before .before) .race-fit, room (c .before .before .before .before .before .before) .sets-fit),
-  ),
-)
+race-at-requires c κs =
+    let small = told (c .before .before .before .before .before .before) .race-fit in
+    let held = room (c .before .before .before .before .before .before) in
+    (omega (arith, small, held .fits .events-fit), (omega (arith, small, held .fits .procedures-fit), omega (arith, small, held .fits .sets-fit)))
 
 prune-requires : tie.Need-prune-requires
 prune-requires c κs =
-    let held = room (c .before .before .before .before .before .before .before .before .before .before .before) in (
+    let at = c .before .before .before .before .before .before .before .before .before .before .before in
+    let held = room at in (
       search needs,
       (
-        here (c .before .before .before .before .before .before .before .before .before .before .before),
+        here at,
         (
-          held .heads-fit,
+          held .fits .heads-fit,
           (
-            held .links-fit,
+            held .fits .links-fit,
             (
-              held .procedures-fit,
+              held .fits .procedures-fit,
               (
-                held .sets-fit,
+                held .fits .sets-fit,
                 (
                   held .laid-out,
-                  dropped-counted _ _ _ _ _ _ (told (c .before .before .before .before .before .before .before .before .before .before .before)),
+                  dropped-counted _ _ _ _ _ _ (told at),
                 ),
               ),
             ),
@@ -129,17 +132,34 @@ same-length-13 c = search needs
 
 returns-3 : tie.Need-returns-3
 returns-3 c =
-    let done = left-out _ _ _ _ _ (room (c .before .before .before .before .before .before .before .before .before .before .before .before .before .before .before .before .before)) (here (c .before .before .before .before .before .before .before .before .before .before .before .before .before .before .before .before .before)) _ (told (c .before .before .before .before .before .before .before .before .before .before .before .before .before .before .before .before .before)) _ _ _ (c .before .before .before .before .before .prune .ensures) (c .if3 .taken) in (
-      answer-done _ _ _ _ _ (room (c .before .before .before .before .before .before .before .before .before .before .before .before .before .before .before .before .before)) (here (c .before .before .before .before .before .before .before .before .before .before .before .before .before .before .before .before .before)) _ (told (c .before .before .before .before .before .before .before .before .before .before .before .before .before .before .before .before .before)) _ _ (c .before .before .before .before .before .before .before .before .before .before .before .before .before .before .before .before .if1 .left) (sym (c .before .before .before .before .before .before .before .before .before .before .before .before .before .before .before .is-full .ensures) ∙ c .before .before .before .before .before .before .before .before .before .before .before .before .before .before .if2 .left)
-          (c .before .before .before .before .before .before .before .before .before .before .race-at .ensures) ∙ ap (accessed _ _ _ _) (done .0),
-      done .1,
-    )
+    let pruned = c .before .before .before .before .before in
+    let at = looked pruned in
+    let done = left-out _ _ _ _ _ (room at) (here at) _ (told at) _ _ _ (pruned .prune .ensures) (c .if3 .taken) in
+    let answer = answer-done _ _ _ _ _ (room at) (here at) _ (told at) _ _ (not-stray pruned) (not-full pruned) (c .before .before .before .before .before .before .before .before .before .before .race-at .ensures) in
+    (answer ∙ ap (accessed _ _ _ _) (done .0), done .1)
 
 append-requires : tie.Need-append-requires
 append-requires c κs =
-    let held = room (c .before .before .before .before .before .before .before .before .before .before .before .before .before .before .before .before .before .before .before .before .before .before) in
-    let fits = append-fits _ _ _ _ _ held (here (c .before .before .before .before .before .before .before .before .before .before .before .before .before .before .before .before .before .before .before .before .before .before)) _ (told (c .before .before .before .before .before .before .before .before .before .before .before .before .before .before .before .before .before .before .before .before .before .before)) _ _ _ (c .before .before .before .before .before .before .before .before .before .before .prune .ensures) (c .before .before .before .before .before .if3 .left) (sym (c .before .before .before .before .before .before .before .before .before .before .before .before .before .before .before .before .before .before .before .before .is-full .ensures) ∙ c .before .before .before .before .before .before .before .before .before .before .before .before .before .before .before .before .before .before .before .if2 .left) in
-    (omega (arith, here (c .before .before .before .before .before .before .before .before .before .before .before .before .before .before .before .before .before .before .before .before .before .before), heads-fit (c .before .before .before .before .before .before .before .before .before .before)), (fits .0, (fits .1, (fits .2, (fits .3, (links-fit (c .before .before .before .before .before .before .before .before .before .before), (held .events-fit, (held .procedures-fit, held .sets-fit))))))))
+    let pruned = c .before .before .before .before .before .before .before .before .before .before in
+    let at = looked pruned in
+    let held = room at in
+    let rest = pruned .prune .ensures in
+    let fits = append-fits _ _ _ _ _ held (here at) _ (told at) _ _ _ rest (c .before .before .before .before .before .if3 .left) (not-full pruned) in (
+      omega (arith, here at, held .fits .heads-fit, rest .heads-rest .same-length),
+      (
+        fits .0,
+        (
+          fits .1,
+          (
+            fits .2,
+            (
+              fits .3,
+              (omega (arith, held .fits .links-fit, rest .links-rest .same-length), (held .fits .events-fit, (held .fits .procedures-fit, held .fits .sets-fit))),
+            ),
+          ),
+        ),
+      ),
+    )
 
 same-length-14 : tie.Need-same-length-14
 same-length-14 c = search needs
@@ -158,11 +178,14 @@ same-length-18 c = search needs
 
 returns-4 : tie.Need-returns-4
 returns-4 c =
-    let held = room (c .before .before .before .before .before .before .before .before .before .before .before .before .before .before .before .before .before .before .before .before .before .before .before .before .before .before .before .before .before .before .before .before .before) in
-    let not-full = sym (c .before .before .before .before .before .before .before .before .before .before .before .before .before .before .before .before .before .before .before .before .before .before .before .before .before .before .before .before .before .before .before .is-full .ensures) ∙ c .before .before .before .before .before .before .before .before .before .before .before .before .before .before .before .before .before .before .before .before .before .before .before .before .before .before .before .before .before .before .if2 .left in
+    let pruned = c .before .before .before .before .before .before .before .before .before .before .before .before .before .before .before .before .before .before .before .before .before in
+    let at = looked pruned in
     let left = c .before .before .before .before .before .before .before .before .before .before .append .ensures in
-    let done = entry-added _ _ _ _ _ held (here (c .before .before .before .before .before .before .before .before .before .before .before .before .before .before .before .before .before .before .before .before .before .before .before .before .before .before .before .before .before .before .before .before .before)) _ (told (c .before .before .before .before .before .before .before .before .before .before .before .before .before .before .before .before .before .before .before .before .before .before .before .before .before .before .before .before .before .before .before .before .before)) _ _ _ (c .before .before .before .before .before .before .before .before .before .before .before .before .before .before .before .before .before .before .before .before .before .prune .ensures) (c .before .before .before .before .before .before .before .before .before .before .before .before .before .before .before .before .if3 .left) not-full (heads-fit (c .before .before .before .before .before .before .before .before .before .before .before .before .before .before .before .before .before .before .before .before .before)) (links-fit (c .before .before .before .before .before .before .before .before .before .before .before .before .before .before .before .before .before .before .before .before .before)) (left .0) (left .1 .0) (left .1 .1 .0) (left .1 .1 .1 .0) (left .1 .1 .1 .1 .0) (left .1 .1 .1 .1 .1) in
-    (answer-done _ _ _ _ _ held (here (c .before .before .before .before .before .before .before .before .before .before .before .before .before .before .before .before .before .before .before .before .before .before .before .before .before .before .before .before .before .before .before .before .before)) _ (told (c .before .before .before .before .before .before .before .before .before .before .before .before .before .before .before .before .before .before .before .before .before .before .before .before .before .before .before .before .before .before .before .before .before)) _ _ (c .before .before .before .before .before .before .before .before .before .before .before .before .before .before .before .before .before .before .before .before .before .before .before .before .before .before .before .before .before .before .before .before .if1 .left) not-full (c .before .before .before .before .before .before .before .before .before .before .before .before .before .before .before .before .before .before .before .before .before .before .before .before .before .before .race-at .ensures) ∙ ap (accessed _ _ _ _) (done .0), done .1)
+    let done =
+    entry-added _ _ _ _ _ (room at) (here at) _ (told at) _ _ _ (pruned .prune .ensures) (c .before .before .before .before .before .before .before .before .before .before .before .before .before .before .before .before .if3 .left) (not-full pruned) (left .0) (left .1 .0)
+    (left .1 .1 .0) (left .1 .1 .1 .0) (left .1 .1 .1 .1 .0) (left .1 .1 .1 .1 .1) in
+    let answer = answer-done _ _ _ _ _ (room at) (here at) _ (told at) _ _ (not-stray pruned) (not-full pruned) (c .before .before .before .before .before .before .before .before .before .before .before .before .before .before .before .before .before .before .before .before .before .before .before .before .before .before .race-at .ensures) in
+    (answer ∙ ap (accessed _ _ _ _) (done .0), done .1)
 
 pub access-spec : {M : Type 1} → statement M
 access-spec =

@@ -1,13 +1,13 @@
 -- `prune` walks the list until none is left to drop; each step is a law of `Pruning`. Assumes nothing.
 use Prim.Native.Nat.{_≤_, _<_}
-use mathlib.Core.Path.{_≡_, sym, _∙_}
+use mathlib.Core.Path.{sym, _∙_}
 use native.Mathlib.Omega.{arith}
 use lib.ListN.{length}
 use borrow.Author.Needs.{needs}
 use Rattle.bags.specs.Runs.{bagsIn}
 use Rattle.kept.specs.Pieces.{pieceSize, slotsFrom}
 use Rattle.kept.specs.Parts.{dropsBy}
-use Rattle.kept.proofs.Pruning.{Pruning, prune-begins, prune-inside, prune-walk, prune-drops, prune-stays, prune-ends, prune-falls, prune-lengths}
+use Rattle.kept.proofs.Pruning.{Pruning, prune-begins, prune-inside, prune-walk, prune-drops, prune-stays, prune-ends, prune-falls}
 use Rattle.kept.proofs.prune.Statement.{statement}
 use Rattle.kept.proofs.prune.Tie as tie
 use Rattle.kept.proofs.prune.Reads as reads
@@ -30,15 +30,25 @@ slice-read-at : tie.Need-slice-read-at Inv-loop μ-loop
 slice-read-at c = search needs
 
 loop-holds : tie.Need-loop-holds Inv-loop μ-loop
-loop-holds c = prune-begins _ _ _ _ _ _ (search needs) (search needs) (search needs) (search needs) (search needs)
+loop-holds c = prune-begins _ _ _ _ _ _ (search needs) (search needs) (search needs)
 
--- The location has a list.
-here : (a : tie.At-loop Inv-loop μ-loop) → a .before .before .before .before .before .before .before .before .args .location < pieceSize
-here a = a .before .before .before .before .before .before .before .before .pre .1 .0
+-- What is asked of the call, and that heads and links are as long as they were.
+asked : (a : tie.At-loop Inv-loop μ-loop) → (a .before .before .before .before .before .before .before .before .args .location < pieceSize) × (pieceSize ≤ length (a .before .before .before .before .before .before .before .before .args .heads .now)) × (pieceSize ≤ length (a .before .before .before .before .before .before .before .before .args .links .now))
+asked a = (a .before .before .before .before .before .before .before .before .pre .1 .0, a .before .before .before .before .before .before .before .before .pre .1 .1 .0, a .before .before .before .before .before .before .before .before .pre .1 .1 .1 .0)
+
+fits : (a : tie.At-loop Inv-loop μ-loop) → (pieceSize ≤ length (a .loop .heads)) × (pieceSize ≤ length (a .loop .links))
+fits a = (omega (arith, asked a, a .loop .inv .heads-rest .same-length), omega (arith, asked a, a .loop .inv .links-rest .same-length))
 
 -- While some are left to drop, the link leads to a slot within the pieces.
 inside : (c : tie.In-loop Inv-loop μ-loop) → (0 < c .before .loop .at) × (c .before .loop .at ≤ pieceSize) × (c .before .loop .last ≤ pieceSize)
-inside c = prune-inside _ _ _ _ _ (here (c .before)) _ _ _ _ _ _ (c .before .loop .inv) (c .loop-test .taken)
+inside c = prune-inside _ _ _ _ _ (asked (c .before) .0) _ _ _ _ _ _ (c .before .loop .inv) (c .loop-test .taken)
+
+-- Back from a slot that is dropped, and from one that stays, to the turn it belongs to; and what the bags said of it.
+abbrev turn-of-dropped : tie.After-slice-known6 Inv-loop μ-loop → tie.In-loop Inv-loop μ-loop
+turn-of-dropped c = c .before .before .before .before .before .before .before .before .before .before .before .before
+
+abbrev turn-of-staying : tie.Else1 Inv-loop μ-loop → tie.In-loop Inv-loop μ-loop
+turn-of-staying c = c .before .before .before .before .before
 
 sub-slot : tie.Need-sub-slot Inv-loop μ-loop
 sub-slot c = omega (arith, inside c)
@@ -50,7 +60,7 @@ mul-next : tie.Need-mul-next Inv-loop μ-loop
 mul-next c = omega (arith, inside c)
 
 slice-read-next : tie.Need-slice-read-next Inv-loop μ-loop
-slice-read-next c = omega (arith, inside (c .before), c .before .before .loop .inv .links-fit)
+slice-read-next c = omega (arith, inside (c .before), fits (c .before .before))
 
 mul-t23 : tie.Need-mul-t23 Inv-loop μ-loop
 mul-t23 c = omega (arith, inside (c .before))
@@ -68,50 +78,57 @@ drops-requires : tie.Need-drops-requires Inv-loop μ-loop
 drops-requires c κs = search needs
 
 relink-requires : tie.Need-relink-requires Inv-loop μ-loop
-relink-requires c κs = (omega (arith, here (c .before .before .before .before .before .before .before .before), c .before .before .before .before .before .before .before .before .loop .inv .heads-fit), omega (arith, inside (c .before .before .before .before .before .before .before), c .before .before .before .before .before .before .before .before .loop .inv .links-fit))
+relink-requires c κs = (omega (arith, asked (c .before .before .before .before .before .before .before .before), fits (c .before .before .before .before .before .before .before .before)), omega (arith, inside (c .before .before .before .before .before .before .before), fits (c .before .before .before .before .before .before .before .before)))
 
 mul-links : tie.Need-mul-links Inv-loop μ-loop
-mul-links c = omega (arith, inside (c .before .before .before .before .before .before .before .before .before .before .before .before))
+mul-links c = omega (arith, inside (turn-of-dropped c))
 
 slice-write-links : tie.Need-slice-write-links Inv-loop μ-loop
-slice-write-links c = omega (arith, inside (c .before .before .before .before .before .before .before .before .before .before .before .before), c .before .before .before .before .before .before .before .before .before .before .before .before .before .loop .inv .links-fit, c .before .before .before .before .relink .kept .1 .0)
+slice-write-links c = omega (arith, inside (turn-of-dropped c), fits (turn-of-dropped c .before), c .before .before .before .before .relink .kept .1 .0)
 
 sub-left : tie.Need-sub-left Inv-loop μ-loop
-sub-left c = omega (arith, c .before .before .before .before .before .before .before .before .before .before .before .before .loop-test .taken)
+sub-left c = omega (arith, turn-of-dropped c .loop-test .taken)
 
 loop-less : tie.Need-loop-less Inv-loop μ-loop
 loop-less c =
-    let next = prune-drops _ _ _ _ _ (here (c .before .before .before .before .before .before .before .before .before .before .before .before .before)) _ _ _ _ _ _ (c .before .before .before .before .before .before .before .before .before .before .before .before .before .loop .inv) _ _ (c .before .before .before .before .before .before .before .before .before .before .before .before .loop-test .taken)
-    (sym (c .before .before .before .before .before .before .before .before .drops .ensures) ∙ c .before .before .before .before .before .before .before .if1 .taken) (c .before .before .before .before .relink .ensures .0) (c .before .before .before .before .relink .ensures .1) in
-    prune-falls _ _ _ _ _ (here (c .before .before .before .before .before .before .before .before .before .before .before .before .before)) _ _ _ _ _ _ _ _ _ _ _ _ (c .before .before .before .before .before .before .before .before .before .before .before .before .before .loop .inv) (next .0) (next .1)
+    let turn = turn-of-dropped c in
+    let given = asked (turn .before) in
+    let told = sym (c .before .before .before .before .before .before .before .before .drops .ensures) ∙ c .before .before .before .before .before .before .before .if1 .taken in
+    let relinked = c .before .before .before .before .relink .ensures in
+    let next = prune-drops _ _ _ _ _ (given .0) _ _ _ _ _ _ (turn .before .loop .inv) (given .1) (given .2) _ _ (turn .loop-test .taken) told (relinked .0) (relinked .1) in
+    prune-falls _ _ _ _ _ (given .0) _ _ _ _ _ _ _ _ _ _ _ _ (turn .before .loop .inv) (next .0) (next .1)
 
 loop-again : tie.Need-loop-again Inv-loop μ-loop
-loop-again c = (prune-drops _ _ _ _ _ (here (c .before .before .before .before .before .before .before .before .before .before .before .before .before)) _ _ _ _ _ _ (c .before .before .before .before .before .before .before .before .before .before .before .before .before .loop .inv) _ _ (c .before .before .before .before .before .before .before .before .before .before .before .before .loop-test .taken) (sym (c .before .before .before .before .before .before .before .before .drops .ensures) ∙ c .before .before .before .before .before .before .before .if1 .taken)
-    (c .before .before .before .before .relink .ensures .0) (c .before .before .before .before .relink .ensures .1)) .0
+loop-again c =
+    let turn = turn-of-dropped c in
+    let given = asked (turn .before) in
+    let told = sym (c .before .before .before .before .before .before .before .before .drops .ensures) ∙ c .before .before .before .before .before .before .before .if1 .taken in
+    let relinked = c .before .before .before .before .relink .ensures in
+    let next = prune-drops _ _ _ _ _ (given .0) _ _ _ _ _ _ (turn .before .loop .inv) (given .1) (given .2) _ _ (turn .loop-test .taken) told (relinked .0) (relinked .1) in
+    next .0
 
 loop-less-2 : tie.Need-loop-less-2 Inv-loop μ-loop
 loop-less-2 c =
-    let next = prune-stays _ _ _ _ _ (here (c .before .before .before .before .before .before)) _ _ _ _ _ _ (c .before .before .before .before .before .before .loop .inv) (c .before .before .before .before .before .loop-test .taken) (sym (c .before .drops .ensures) ∙ c .if1 .left) in
-    prune-falls _ _ _ _ _ (here (c .before .before .before .before .before .before)) _ _ _ _ _ _ _ _ _ _ _ _ (c .before .before .before .before .before .before .loop .inv) (next .0) (next .1)
+    let turn = turn-of-staying c in
+    let given = asked (turn .before) in
+    let next = prune-stays _ _ _ _ _ (given .0) _ _ _ _ _ _ (turn .before .loop .inv) (turn .loop-test .taken) (sym (c .before .drops .ensures) ∙ c .if1 .left) in
+    prune-falls _ _ _ _ _ (given .0) _ _ _ _ _ _ _ _ _ _ _ _ (turn .before .loop .inv) (next .0) (next .1)
 
 loop-again-2 : tie.Need-loop-again-2 Inv-loop μ-loop
-loop-again-2 c = (prune-stays _ _ _ _ _ (here (c .before .before .before .before .before .before)) _ _ _ _ _ _ (c .before .before .before .before .before .before .loop .inv) (c .before .before .before .before .before .loop-test .taken) (sym (c .before .drops .ensures) ∙ c .if1 .left)) .0
-
--- Heads and links keep their lengths.
-lengths : (a : tie.At-loop Inv-loop μ-loop)
-    → (length (a .loop .heads) ≡ length (a .before .before .before .before .before .before .before .before .args .heads .now)) × (length (a .loop .links) ≡ length (a .before .before .before .before .before .before .before .before .args .links .now))
-lengths a =
-    let pre = a .before .before .before .before .before .before .before .before .pre in
-    prune-lengths _ _ _ _ _ (pre .1 .1 .0) (pre .1 .1 .1 .0) (pre .1 .1 .1 .1 .1 .1 .0 .used-fit) _ _ _ _ _ _ (a .loop .inv)
+loop-again-2 c =
+    let turn = turn-of-staying c in
+    let given = asked (turn .before) in
+    let next = prune-stays _ _ _ _ _ (given .0) _ _ _ _ _ _ (turn .before .loop .inv) (turn .loop-test .taken) (sym (c .before .drops .ensures) ∙ c .if1 .left) in
+    next .0
 
 same-length : tie.Need-same-length Inv-loop μ-loop
-same-length c = lengths (c .before) .0
+same-length c = c .before .loop .inv .heads-rest .same-length
 
 same-length-2 : tie.Need-same-length-2 Inv-loop μ-loop
-same-length-2 c = lengths (c .before) .1
+same-length-2 c = c .before .loop .inv .links-rest .same-length
 
 returns : tie.Need-returns Inv-loop μ-loop
-returns c = prune-ends _ _ _ _ _ (here (c .before)) _ _ _ _ _ _ (c .before .loop .inv) (c .loop-test .left)
+returns c = prune-ends _ _ _ _ _ (asked (c .before) .0) _ _ _ _ _ _ (c .before .loop .inv) (c .loop-test .left)
 
 pub prune-spec : {M : Type 1} → statement M
 prune-spec =

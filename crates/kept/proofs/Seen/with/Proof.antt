@@ -1,3 +1,4 @@
+-- Each field is what `pick` gives, or computed as it is stated. Assumes nothing.
 use borrow.Author.Needs.{needs}
 use Rattle.kept.proofs.Seen.with.Statement.{statement}
 use Rattle.kept.proofs.Seen.with.Tie as tie
@@ -5,8 +6,8 @@ use Rattle.kept.proofs.Seen.with.Reads as reads
 use Rattle.kept.proofs.Seen.with.Lts as lts
 use Rattle.kept.proofs.pick.Reads as pick-reads
 
-add-t7 : tie.Need-add-t7
-add-t7 c = search needs
+add-visits : tie.Need-add-visits
+add-visits c = search needs
 
 pick-requires : tie.Need-pick-requires
 pick-requires c κs = search needs
@@ -25,4 +26,4 @@ returns c = simp (c .before .before .before .before .before .pick .ensures, c .b
 
 pub with-spec : {M : Type 1} → statement M
 with-spec =
-    tie.close (tie.spec add-t7 pick-requires add-pick pick-requires-2 pick-requires-3 returns)
+    tie.close (tie.spec add-visits pick-requires add-pick pick-requires-2 pick-requires-3 returns)
