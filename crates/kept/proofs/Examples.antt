@@ -1,17 +1,25 @@
--- Small runs, evaluated: antt computes each line from the definitions. A lock set is a word: 0 holds no lock, 1 holds lock 0, and 2 holds lock 1; all
--- the accesses here write. Assumes nothing.
+-- Small runs and small lists, evaluated: antt computes each line from the definitions. A lock set is a word: 0 holds no lock, 1 holds lock 0, 2 holds
+-- lock 1, and 3 both; all the accesses here write. Assumes nothing.
 use Prim.Native.Nat.{ℕ}
 use mathlib.Core.Path.{_≡_, refl}
 use mathlib.Core.Bool.{Bool, true, false, cond, _||_}
-use mathlib.Core.List.{[], _∷_}
+use mathlib.Core.List.{List, [], _∷_}
 use mathlib.Core.Option.{none, some}
 use native.Mathlib.Omega.{arith}
 use lib.Dec.{eqb, ltb}
 use Rattle.locks.specs.Sets.{isIn, every, apart, within}
+use Rattle.bags.specs.Parallel.{member}
+use Rattle.bags.specs.Bags.{Bags, inSBag, inPBag, inSomeBag}
 use Rattle.kept.specs.declared.Entry.{Entry}
+use Rattle.kept.specs.declared.Slots.{Slots}
+use Rattle.kept.specs.declared.Race.{Race as AccessRace}
+use Rattle.kept.specs.declared.Accessed.the-variants.{Done, InNoBag, Full}
 use Rattle.kept.specs.Lists.{any, first, those}
 use Rattle.kept.specs.Rules.{races, reported, named, dropped, left, leavesOut, added, after, changedAt}
 use Rattle.kept.specs.Theorem.{Run, Race, Lawful, kept, visited}
+use Rattle.kept.specs.Pieces.{pieces, slotsFrom, entryAt, cleared}
+use Rattle.kept.specs.Access.{parallelBy, codeOf, freeing, nextSlot, freedThen, usedThen}
+use Rattle.kept.specs.Parts.{nothingSeen, weighedEntry, seenOver, isFull}
 
 -- The entry of an event, made by a procedure under a lock set.
 abbrev entryOf : ℕ → ℕ → ℕ → Entry
@@ -93,3 +101,85 @@ pub first-access : (parallel : Entry → Bool) (e : Entry)
     → (reported parallel e [] ≡ false) × (named parallel e [] ≡ none) × (after parallel e [] ≡ e ∷ [])
 unfolding reported named after left added any first those
 first-access parallel e = (refl, refl, refl)
+
+-- ---- each rule on a small list
+
+-- Main runs; procedure 1 is parallel with it, and procedure 2 has not begun. An access by main, and entries of main, of procedure 1 and of procedure 2.
+abbrev mainRuns : List Bags
+mainRuns = record { owner = 0; S = 0 ∷ []; P = 1 ∷ [] } ∷ []
+
+abbrev new : ℕ → Entry
+new locks = entryOf 9 0 locks
+
+-- An entry that precedes and whose set contains all of H is dropped, also where the sets share a lock; one that is parallel stays, and leaves the new
+-- one out if its set lies within H.
+pub dropped-or-not :
+    (after (parallelBy mainRuns) (new 1) (entryOf 3 0 1 ∷ []) ≡ new 1 ∷ [])
+    × (after (parallelBy mainRuns) (new 1) (entryOf 3 0 3 ∷ []) ≡ new 1 ∷ [])
+    × (after (parallelBy mainRuns) (new 1) (entryOf 3 1 1 ∷ []) ≡ entryOf 3 1 1 ∷ [])
+    × (after (parallelBy mainRuns) (new 1) (entryOf 3 1 3 ∷ []) ≡ entryOf 3 1 3 ∷ new 1 ∷ [])
+unfolding after left dropped added leavesOut any those isIn every within member inPBag
+dropped-or-not = (refl, refl, refl, refl)
+
+-- An entry that precedes, with a smaller set, neither goes nor leaves the new one out: both are kept, though both write.
+pub smaller-set-stays : after (parallelBy mainRuns) (new 1) (entryOf 3 0 0 ∷ []) ≡ entryOf 3 0 0 ∷ new 1 ∷ []
+unfolding after left dropped added leavesOut any those isIn every within member inPBag
+smaller-set-stays = refl
+
+-- Of two entries that race the first is named.
+pub first-is-named : named (parallelBy mainRuns) (new 0) (entryOf 3 1 1 ∷ entryOf 4 1 2 ∷ []) ≡ some (entryOf 3 1 1)
+unfolding named races first isIn every apart member inPBag
+first-is-named = refl
+
+-- ---- what is seen of a list
+
+-- Slots 0 and 1 hold two entries of main, under no lock and under lock 0; the new access has lock 0. Both are visited though none races; the second is to
+-- be dropped, so the last that stays is in slot 0, which the link 1 names.
+pub seen-of-two :
+    seenOver mainRuns (new 1) (0 ∷ 0 ∷ []) (0 ∷ 1 ∷ []) (0 ∷ 1 ∷ []) nothingSeen
+    ≡ record { visits = 2; race = 0; covered = false; dropped = 1; stray = false; last = 1 }
+unfolding seenOver weighedEntry races dropped leavesOut isIn every apart within member inSBag inPBag inSomeBag
+seen-of-two = refl
+
+-- An entry of procedure 2 is in no bag, also where the sets share a lock and neither lies within the other.
+pub seen-in-no-bag :
+    seenOver mainRuns (new 3) (2 ∷ []) (6 ∷ []) (0 ∷ []) nothingSeen
+    ≡ record { visits = 1; race = 0; covered = false; dropped = 0; stray = true; last = 1 }
+unfolding seenOver weighedEntry races dropped leavesOut isIn every apart within member inSBag inPBag inSomeBag
+seen-in-no-bag = refl
+
+-- ---- slots
+
+-- Slots 4 and 2 are in a list, and 2 is dropped: it is freed, and the next entry gets it; where none is freed, the first slot never used.
+pub dropped-slot-again :
+    (freeing (λ s. eqb s 2) (4 ∷ 2 ∷ []) [] ≡ 2 ∷ []) × (nextSlot (2 ∷ []) 7 ≡ 2) × (freedThen (2 ∷ []) ≡ []) × (usedThen (2 ∷ []) 7 ≡ 7)
+    × (nextSlot [] 7 ≡ 7) × (usedThen [] 7 ≡ 8)
+unfolding freeing
+dropped-slot-again = (refl, refl, refl, refl, refl, refl)
+
+-- There is no slot exactly where 4,096 are used, none is freed, none is to be dropped and the entry is not covered.
+pub full-or-not :
+    (isFull nothingSeen (record { freed = 0; used = 4096 }) ≡ true)
+    × (isFull nothingSeen (record { freed = 0; used = 4095 }) ≡ false)
+    × (isFull nothingSeen (record { freed = 3; used = 4096 }) ≡ false)
+    × (isFull (record { visits = 1; race = 0; covered = false; dropped = 1; stray = false; last = 0 }) (record { freed = 0; used = 4096 }) ≡ false)
+    × (isFull (record { visits = 1; race = 0; covered = true; dropped = 0; stray = false; last = 1 }) (record { freed = 0; used = 4096 }) ≡ false)
+full-or-not = (refl, refl, refl, refl, refl)
+
+-- Link 1 leads to slot 0, and from there the link 0 ends the list; a link to the slot itself would never end it.
+pub slots-of-a-link : (slotsFrom 3 (0 ∷ []) 1 ≡ 0 ∷ []) × (slotsFrom 3 (1 ∷ []) 1 ≡ 0 ∷ 0 ∷ 0 ∷ [])
+unfolding slotsFrom
+slots-of-a-link = (refl, refl)
+
+-- A slot holds an event, a procedure and a lock set, each in its own piece.
+pub entry-in-a-slot : entryAt (pieces [] [] (5 ∷ []) (1 ∷ []) (3 ∷ [])) 0 ≡ entryOf 5 1 3
+entry-in-a-slot = refl
+
+-- Clearing two numbers leaves the third.
+pub two-cleared : cleared 2 (5 ∷ 6 ∷ 7 ∷ []) ≡ 0 ∷ 0 ∷ 7 ∷ []
+unfolding cleared
+two-cleared = refl
+
+-- The codes.
+pub codes : (slots : Slots) (race : AccessRace) → (codeOf (Done slots 0 race) ≡ 0) × (codeOf InNoBag ≡ 12) × (codeOf Full ≡ 13)
+codes slots race = (refl, refl, refl)

@@ -3,7 +3,7 @@
 //
 // `empty_lists` sets up the lists, `access` brings one access in, and `clear` leaves the pieces zero.
 ghost use mathlib.Core.Path.{_≡_};
-ghost use mathlib.Core.Bool.{cond, not, _&&_, _||_};
+ghost use mathlib.Core.Bool.{false, cond};
 ghost use mathlib.Core.List.{List, _++_};
 ghost use Prim.Native.Nat.{ℕ, _≤_, _<_, _+_, _-_};
 ghost use lib.ListN.{length, getD, set, drop, replicate};
@@ -14,7 +14,7 @@ ghost use Rattle.bags.specs.Runs.{bagsIn, Room as BagsRoom};
 ghost use Rattle.bags.specs.Ask.{saysParallel};
 ghost use Rattle.kept.specs.Rules.{dropped};
 ghost use Rattle.kept.specs.Pieces.{pieceSize, pieces, slotsOf, slotsFreed, listsIn, LaidOut, Fits, Room, noneUsed, cleared};
-ghost use Rattle.kept.specs.Access.{parallelBy, accessed, slotsAfter, AfterAccess};
+ghost use Rattle.kept.specs.Access.{parallelBy, accessed, slotsAfter, Accepted, AfterAccess};
 ghost use Rattle.kept.specs.Parts.{entryOf, saysNoBag, nothingSeen, weighed, weighedEntry, seenOver, isFull, Walkable, raceAt, headsLinked, linksLinked, dropsBy, howMany, Pruned, slotFor, slotsThen};
 use bags::ask::Answer;
 use bags::ask::Pairs;
@@ -161,7 +161,7 @@ pub fn access(
     procedures: &mut [u32],
     sets: &mut [u64],
     slots: Slots,
-    location: usize,
+    location: u32,
     entry: Entry,
     pairs: Pairs,
     starts: &[u32],
@@ -180,12 +180,13 @@ pub fn access(
         (pieces (now (heads .entry)) (now (links .entry)) (now (events .entry)) (now (procedures .entry)) (now (sets .entry))) slots
         (pieces (now (heads .exit)) (now (links .exit)) (now (events .exit)) (now (procedures .exit)) (now (sets .exit))) r ⌝ }
 {
+    let list = location as usize;
     let seen = look(
         heads,
         links,
         procedures,
         sets,
-        location,
+        list,
         entry,
         pairs,
         starts,
@@ -198,6 +199,51 @@ pub fn access(
         return Accessed::Full;
     }
     let race = race_at(seen.race, events, procedures, sets);
+    let then = change(
+        heads,
+        links,
+        events,
+        procedures,
+        sets,
+        slots,
+        list,
+        entry,
+        seen,
+        pairs,
+        starts,
+        joins,
+    );
+    Accessed::Done(then, seen.visits, race)
+}
+
+// The dropped go, and the entry comes unless it is covered. Gives which slots hold no entry then.
+fn change(
+    heads: &mut [u32],
+    links: &mut [u32],
+    events: &mut [u32],
+    procedures: &mut [u32],
+    sets: &mut [u64],
+    slots: Slots,
+    location: usize,
+    entry: Entry,
+    seen: Seen,
+    pairs: Pairs,
+    starts: &[u32],
+    joins: &[u32],
+) -> Slots
+    requires { ⌜ BagsRoom (now starts) (now joins) pairs ⌝ }
+    requires { ⌜ Room (pieces (now heads) (now links) (now events) (now procedures) (now sets)) slots ⌝ }
+    requires { ⌜ location < pieceSize ⌝ }
+    requires { ⌜ seen ≡ seenOver (bagsIn (now starts) (now joins) pairs) entry (now procedures) (now sets) (slotsOf (now heads) (now links) location) nothingSeen ⌝ }
+    requires { ⌜ isFull seen slots ≡ false ⌝ }
+    ensures result { λ r.
+        ⌜ r ≡ slotsAfter (bagsIn (now (starts .entry)) (now (joins .entry)) pairs) location entry
+        (pieces (now (heads .entry)) (now (links .entry)) (now (events .entry)) (now (procedures .entry)) (now (sets .entry))) slots ⌝ }
+    ensures pieces { λ _.
+        ⌜ Accepted (bagsIn (now (starts .entry)) (now (joins .entry)) pairs) location entry
+        (pieces (now (heads .entry)) (now (links .entry)) (now (events .entry)) (now (procedures .entry)) (now (sets .entry))) slots
+        (pieces (now (heads .exit)) (now (links .exit)) (now (events .exit)) (now (procedures .exit)) (now (sets .exit))) ⌝ }
+{
     let pruned = prune(
         heads,
         links,
@@ -212,9 +258,9 @@ pub fn access(
         joins,
     );
     if seen.covered {
-        return Accessed::Done(pruned, seen.visits, race);
+        return pruned;
     }
-    let then = append(
+    append(
         heads,
         links,
         events,
@@ -224,8 +270,7 @@ pub fn access(
         seen.last,
         entry,
         pruned,
-    );
-    Accessed::Done(then, seen.visits, race)
+    )
 }
 
 // The entry of that procedure, with those locks, is visited. The bags are asked only where the answer matters.

@@ -1,23 +1,20 @@
--- `access` looks, refuses or unlinks, and appends: each way out is a law of `Accepting`. Assumes nothing.
+-- `access` looks, and refuses or changes: each way out is a law of `Accepting`. Assumes nothing.
 use Prim.Native.Nat.{_<_}
-use mathlib.Core.Bool.{false}
-use mathlib.Core.Path.{_≡_, refl, sym, ap, _∙_}
+use mathlib.Core.Path.{refl, sym, ap, _∙_}
 use native.Mathlib.Omega.{arith}
 use borrow.Author.Needs.{needs}
 use Rattle.bags.specs.Runs.{bagsIn}
 use Rattle.kept.specs.Pieces.{Pieces, pieces, pieceSize, Room}
 use Rattle.kept.specs.Access.{accessed}
-use Rattle.kept.specs.Parts.{isFull}
-use Rattle.kept.proofs.Telling.{Told, seen-tells, dropped-counted, room-walkable}
-use Rattle.kept.proofs.Accepting.{answer-no-bag, answer-full, answer-done, left-out, append-fits, entry-added}
+use Rattle.kept.proofs.Telling.{Told, seen-tells, room-walkable}
+use Rattle.kept.proofs.Accepting.{answer-no-bag, answer-full, answer-done}
 use Rattle.kept.proofs.access.Statement.{statement}
 use Rattle.kept.proofs.access.Tie as tie
 use Rattle.kept.proofs.access.Reads as reads
 use Rattle.kept.proofs.access.Lts as lts
 use Rattle.kept.proofs.Seen.is_full.Reads as is-full-reads
-use Rattle.kept.proofs.append.Reads as append-reads
+use Rattle.kept.proofs.change.Reads as change-reads
 use Rattle.kept.proofs.look.Reads as look-reads
-use Rattle.kept.proofs.prune.Reads as prune-reads
 use Rattle.kept.proofs.race_at.Reads as race-at-reads
 
 -- The pieces as they were lent, and what was seen of the list.
@@ -34,16 +31,6 @@ told : (c : tie.After-look)
     → Told (bagsIn (c .before .before .before .before .before .before .before .before .before .before .before .before .args .starts .now) (c .before .before .before .before .before .before .before .before .before .before .before .before .args .joins .now) (c .before .before .before .before .before .before .before .before .before .before .before .before .args .pairs)) (c .before .before .before .before .before .before .before .before .before .before .before .before .args .location) (c .before .before .before .before .before .before .before .before .before .before .before .before .args .entry) (lent c)
     (c .before .before .before .before .before .before .before .before .before .before .before .before .args .slots) (c .look .result)
 told c = seen-tells _ _ _ (lent c) _ (c .look .result) (room-walkable _ _ _ (room c) (here c)) (c .look .ensures)
-
--- From where the dropped are out, back to where the list was looked at: it had no stray entry, and there is room.
-abbrev looked : tie.After-prune → tie.After-look
-looked c = c .before .before .before .before .before .before .before .before .before .before .before .before
-
-not-stray : (c : tie.After-prune) → looked c .look .result .stray ≡ false
-not-stray c = c .before .before .before .before .before .before .before .before .before .before .before .if1 .left
-
-not-full : (c : tie.After-prune) → isFull (looked c .look .result) (looked c .before .before .before .before .before .before .before .before .before .before .before .before .args .slots) ≡ false
-not-full c = sym (c .before .before .before .before .before .before .before .before .before .before .is-full .ensures) ∙ c .before .before .before .before .before .before .before .before .before .if2 .left
 
 look-requires : tie.Need-look-requires
 look-requires c κs = (search needs, (room-walkable (pieces _ _ _ _ _) _ _ (c .before .before .before .before .before .before .before .before .before .before .before .pre .1 .0) (c .before .before .before .before .before .before .before .before .before .before .before .pre .1 .1), (search needs, search needs)))
@@ -86,34 +73,13 @@ returns-2 c =
 race-at-requires : tie.Need-race-at-requires
 race-at-requires c κs =
     let small = told (c .before .before .before .before .before .before) .race-fit in
-    let held = room (c .before .before .before .before .before .before) in
-    (omega (arith, small, held .fits .events-fit), (omega (arith, small, held .fits .procedures-fit), omega (arith, small, held .fits .sets-fit)))
+    let held = room (c .before .before .before .before .before .before) .fits in
+    (omega (arith, small, held .events-fit), (omega (arith, small, held .procedures-fit), omega (arith, small, held .sets-fit)))
 
-prune-requires : tie.Need-prune-requires
-prune-requires c κs =
-    let at = c .before .before .before .before .before .before .before .before .before .before .before in
-    let held = room at in (
-      search needs,
-      (
-        here at,
-        (
-          held .fits .heads-fit,
-          (
-            held .fits .links-fit,
-            (
-              held .fits .procedures-fit,
-              (
-                held .fits .sets-fit,
-                (
-                  held .laid-out,
-                  dropped-counted _ _ _ _ _ _ (told at),
-                ),
-              ),
-            ),
-          ),
-        ),
-      ),
-    )
+change-requires : tie.Need-change-requires
+change-requires c κs =
+    let at = c .before .before .before .before .before .before .before .before .before .before .before .before in
+    (search needs, (room at, (here at, (at .look .ensures, sym (c .before .before .before .before .before .before .before .before .before .before .is-full .ensures) ∙ c .before .before .before .before .before .before .before .before .before .if2 .left))))
 
 same-length-9 : tie.Need-same-length-9
 same-length-9 c = search needs
@@ -132,60 +98,11 @@ same-length-13 c = search needs
 
 returns-3 : tie.Need-returns-3
 returns-3 c =
-    let pruned = c .before .before .before .before .before in
-    let at = looked pruned in
-    let done = left-out _ _ _ _ _ (room at) (here at) _ (told at) _ _ _ (pruned .prune .ensures) (c .if3 .taken) in
-    let answer = answer-done _ _ _ _ _ (room at) (here at) _ (told at) _ _ (not-stray pruned) (not-full pruned) (c .before .before .before .before .before .before .before .before .before .before .race-at .ensures) in
-    (answer ∙ ap (accessed _ _ _ _) (done .0), done .1)
-
-append-requires : tie.Need-append-requires
-append-requires c κs =
-    let pruned = c .before .before .before .before .before .before .before .before .before .before in
-    let at = looked pruned in
-    let held = room at in
-    let rest = pruned .prune .ensures in
-    let fits = append-fits _ _ _ _ _ held (here at) _ (told at) _ _ _ rest (c .before .before .before .before .before .if3 .left) (not-full pruned) in (
-      omega (arith, here at, held .fits .heads-fit, rest .heads-rest .same-length),
-      (
-        fits .0,
-        (
-          fits .1,
-          (
-            fits .2,
-            (
-              fits .3,
-              (omega (arith, held .fits .links-fit, rest .links-rest .same-length), (held .fits .events-fit, (held .fits .procedures-fit, held .fits .sets-fit))),
-            ),
-          ),
-        ),
-      ),
-    )
-
-same-length-14 : tie.Need-same-length-14
-same-length-14 c = search needs
-
-same-length-15 : tie.Need-same-length-15
-same-length-15 c = search needs
-
-same-length-16 : tie.Need-same-length-16
-same-length-16 c = search needs
-
-same-length-17 : tie.Need-same-length-17
-same-length-17 c = search needs
-
-same-length-18 : tie.Need-same-length-18
-same-length-18 c = search needs
-
-returns-4 : tie.Need-returns-4
-returns-4 c =
-    let pruned = c .before .before .before .before .before .before .before .before .before .before .before .before .before .before .before .before .before .before .before .before .before in
-    let at = looked pruned in
-    let left = c .before .before .before .before .before .before .before .before .before .before .append .ensures in
-    let done =
-    entry-added _ _ _ _ _ (room at) (here at) _ (told at) _ _ _ (pruned .prune .ensures) (c .before .before .before .before .before .before .before .before .before .before .before .before .before .before .before .before .if3 .left) (not-full pruned) (left .0) (left .1 .0)
-    (left .1 .1 .0) (left .1 .1 .1 .0) (left .1 .1 .1 .1 .0) (left .1 .1 .1 .1 .1) in
-    let answer = answer-done _ _ _ _ _ (room at) (here at) _ (told at) _ _ (not-stray pruned) (not-full pruned) (c .before .before .before .before .before .before .before .before .before .before .before .before .before .before .before .before .before .before .before .before .before .before .before .before .before .before .race-at .ensures) in
-    (answer ∙ ap (accessed _ _ _ _) (done .0), done .1)
+    let at = c .before .before .before .before .before .before .before .before .before .before .before .before .before .before .before .before .before .before .before .before .before .before .before in
+    let left = c .before .before .before .before .before .before .before .before .before .before .change .ensures in
+    let not-full = sym (c .before .before .before .before .before .before .before .before .before .before .before .before .before .before .before .before .before .before .before .before .before .is-full .ensures) ∙ c .before .before .before .before .before .before .before .before .before .before .before .before .before .before .before .before .before .before .before .before .if2 .left in
+    let answer = answer-done _ _ _ _ _ (room at) (here at) _ (told at) _ _ (c .before .before .before .before .before .before .before .before .before .before .before .before .before .before .before .before .before .before .before .before .before .before .if1 .left) not-full (c .before .before .before .before .before .before .before .before .before .before .before .before .before .before .before .before .race-at .ensures) in
+    (answer ∙ ap (accessed _ _ _ _) (left .0), left .1)
 
 pub access-spec : {M : Type 1} → statement M
 access-spec =
@@ -204,17 +121,10 @@ access-spec =
     same-length-8
     returns-2
     race-at-requires
-    prune-requires
+    change-requires
     same-length-9
     same-length-10
     same-length-11
     same-length-12
     same-length-13
-    returns-3
-    append-requires
-    same-length-14
-    same-length-15
-    same-length-16
-    same-length-17
-    same-length-18
-    returns-4)
+    returns-3)
