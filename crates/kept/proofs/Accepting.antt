@@ -3,11 +3,10 @@
 use Prim.Native.Nat.{ℕ, zero, suc, _+_, _-_, _≤_, _<_}
 use mathlib.Core.Path.{_≡_, refl, sym, ap, ap₂, _∙_}
 use mathlib.Core.Bool.{Bool, true, false, cond, not, _&&_}
-use mathlib.Core.Logic.{_≢_}
 use mathlib.Core.List.{List, [], _∷_, _++_, map, append-nil}
 use native.Mathlib.Omega.{arith}
 use lib.Dec.{eqb, ltb, eqb·suc-zero}
-use lib.ListN.{length, getD, set, drop, length-map, length-append, length-set}
+use lib.ListN.{length, set, drop, length-map, length-append, length-set}
 use lib.Seq.{drop-drop}
 use borrow.Author.Tests.{eqb-true, eqb-false, ltb-false, eq-eqb, ne-eqb, lt-ltb, le-ltb}
 use Rattle.bags.specs.Bags.{Bags}
@@ -16,8 +15,8 @@ use Rattle.kept.specs.declared.Slots.{Slots}
 use Rattle.kept.specs.declared.Seen.{Seen}
 use Rattle.kept.specs.declared.Race.{Race}
 use Rattle.kept.specs.declared.Accessed.the-variants.{Done, InNoBag, Full}
-use Rattle.kept.specs.Lists.{any, those, sumBelow}
-use Rattle.kept.specs.Rules.{dropped, left, leavesOut, added, after, changedAt, inAll}
+use Rattle.kept.specs.Lists.{those}
+use Rattle.kept.specs.Rules.{dropped, left, added, after, changedAt, inAll}
 use Rattle.kept.specs.Pieces.{Pieces, pieces, pieceSize, slotsOf, slotsFreed, entryAt, listsIn, Chain, LaidOut, Room}
 use Rattle.kept.specs.Access.{parallelBy, accessed, placeAt, freeing, nextSlot, freedThen, usedThen, linkTo}
 use Rattle.kept.specs.Access.{drops, isLeftOut, slotsLeft, pool, slotsAfter, Accepted}

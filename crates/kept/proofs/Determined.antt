@@ -1,7 +1,7 @@
 -- What an access promises of the pieces leaves no choice: the layout says what every head and every used link is, since each used slot stands in one of
 -- its lists; what lies past them is kept; and the other pieces are stated outright. Assumes nothing.
 use Prim.Native.Nat.{ℕ, _+_, _-_, _<_}
-use mathlib.Core.Path.{_≡_, sym, ap, ap₂, _∙_}
+use mathlib.Core.Path.{_≡_, sym, ap, _∙_}
 use mathlib.Core.List.{List}
 use native.Mathlib.Decide.{decLt}
 use native.Mathlib.Omega.{arith}

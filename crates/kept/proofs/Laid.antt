@@ -10,17 +10,17 @@ use mathlib.Core.List.{List, [], _∷_, _++_, append-nil}
 use native.Mathlib.Decide.{decLt, ℕ-discrete}
 use native.Mathlib.Omega.{arith}
 use lib.Dec.{eqb, ltb}
-use lib.ListN.{length, getD, set, drop, length-append, length-drop, length-set}
-use lib.Seq.{getD-set-same, drop-set-lt, getD-drop, ext-getD}
+use lib.ListN.{length, getD, set, drop, length-append, length-set}
+use lib.Seq.{getD-set-same, drop-set-lt}
 use borrow.Author.Tests.{lt-ltb, le-ltb, eq-eqb, ne-eqb}
 use Rattle.kept.specs.declared.Slots.{Slots}
 use Rattle.kept.specs.Lists.{sumBelow}
 use Rattle.kept.specs.Pieces.{pieceSize, slotsOf, slotsFreed, timesIn, Chain, LaidOut}
 use Rattle.kept.specs.Access.{placeAt, nextSlot, freedThen, usedThen, linkTo}
 use Rattle.kept.specs.Parts.{headsLinked, linksLinked, slotFor, slotsThen}
-use Rattle.kept.proofs.Sums.{sum-agree, sum-changed, sum-term, sum-two-terms, sum-some}
+use Rattle.kept.proofs.Sums.{sum-agree, sum-changed, sum-term, sum-two-terms}
 use Rattle.kept.proofs.Chains.{lastOf, times-append, times-self, last-below, chain-slots, chain-link, chain-below, chain-rest}
-use Rattle.kept.proofs.Chains.{chain-determines, chain-frame, linked-length, linked-heads-elsewhere, linked-frame, relinked}
+use Rattle.kept.proofs.Chains.{chain-frame, linked-length, linked-heads-elsewhere, linked-frame, relinked}
 
 -- ---- one list put in place of another
 

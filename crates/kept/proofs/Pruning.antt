@@ -1,9 +1,9 @@
 -- Unlinking the dropped: the slots passed that stay, and those still ahead, make up the list all the while; the dropped ones passed stand before those
 -- freed earlier. Assumes nothing.
-use Prim.Native.Nat.{ℕ, zero, suc, _+_, _-_, _≤_, _<_}
-use mathlib.Core.Path.{_≡_, refl, sym, ap, _∙_, subst}
-use mathlib.Core.Bool.{Bool, true, false, cond, not}
-use mathlib.Core.List.{List, [], _∷_, _++_, append-assoc, append-nil}
+use Prim.Native.Nat.{ℕ, suc, _+_, _-_, _≤_, _<_}
+use mathlib.Core.Path.{_≡_, refl, sym, ap, _∙_}
+use mathlib.Core.Bool.{Bool, true, false, not}
+use mathlib.Core.List.{List, [], _∷_, _++_, append-assoc}
 use native.Mathlib.Omega.{arith}
 use lib.ListN.{length, getD, set, drop, length-set, length-append}
 use Rattle.kept.specs.declared.Slots.{Slots}
@@ -81,6 +81,12 @@ module _ (drops : ℕ → Bool) (x : ℕ) (heads₀ links₀ : List ℕ) (slots 
     links-rest = record { same-length = refl; same-rest = refl };
   }
 
+  -- One step on: one slot less is ahead.
+  abbrev pub Step : (heads links : List ℕ) (freed last at left : ℕ) → Pruning heads links freed last at left
+      → (heads′ links′ : List ℕ) (freed′ last′ at′ left′ : ℕ) → Type 0
+  Step heads links freed last at left w heads′ links′ freed′ last′ at′ left′ =
+      (w′ : Pruning heads′ links′ freed′ last′ at′ left′) × (suc (length (w′ .ahead)) ≡ length (w .ahead))
+
   module _ (here : x < pieceSize) (heads links : List ℕ) (freed last at left : ℕ) (w : Pruning heads links freed last at left) where
     -- The slots ahead are those that a walk finds.
     ahead-chain : Chain links (linkTo (w .ahead)) (w .ahead)
@@ -110,14 +116,14 @@ module _ (drops : ℕ → Bool) (x : ℕ) (heads₀ links₀ : List ℕ) (slots 
     -- A slot that is dropped is detached and freed.
     pub prune-drops : pieceSize ≤ length heads₀ → pieceSize ≤ length links₀ → (heads′ links′ : List ℕ) → (left ≡ 0 → ⊥) → drops (at - 1) ≡ true
         → heads′ ≡ headsLinked last x (getD links (at - 1) 0) heads → links′ ≡ linksLinked last (getD links (at - 1) 0) links
-        → (w′ : Pruning heads′ (set links′ (at - 1) freed) at last (getD links (at - 1) 0) (left - 1)) × (suc (length (w′ .ahead)) ≡ length (w .ahead))
+        → Step heads links freed last at left w heads′ (set links′ (at - 1) freed) at last (getD links (at - 1) 0) (left - 1)
     unfolding Chain those freeing
     prune-drops heads-fit links-fit heads′ links′ ne falls heads-linked links-linked =
         rw (heads-linked, links-linked) (go (w .ahead) refl (w .leads) (w .counted) ahead-chain)
       where
         go : (ss : List ℕ) → w .ahead ≡ ss → at ≡ linkTo ss → left ≡ howMany drops ss → Chain links (linkTo ss) ss
-            → (w′ : Pruning (headsLinked last x (getD links (at - 1) 0) heads) (set (linksLinked last (getD links (at - 1) 0) links) (at - 1) freed) at last
-            (getD links (at - 1) 0) (left - 1)) × (suc (length (w′ .ahead)) ≡ length (w .ahead))
+            → Step heads links freed last at left w (headsLinked last x (getD links (at - 1) 0) heads)
+            (set (linksLinked last (getD links (at - 1) 0) links) (at - 1) freed) at last (getD links (at - 1) 0) (left - 1)
         go [] same leads counted chain = absurd (ne counted)
         go (s ∷ ss) same leads counted chain =
             let at-slot : at - 1 ≡ s = omega (arith, leads) in
@@ -157,12 +163,12 @@ module _ (drops : ℕ → Bool) (x : ℕ) (heads₀ links₀ : List ℕ) (slots 
 
     -- A slot that stays is passed.
     pub prune-stays : (left ≡ 0 → ⊥) → drops (at - 1) ≡ false
-        → (w′ : Pruning heads links freed at (getD links (at - 1) 0) left) × (suc (length (w′ .ahead)) ≡ length (w .ahead))
+        → Step heads links freed last at left w heads links freed at (getD links (at - 1) 0) left
     unfolding Chain those freeing
     prune-stays ne stands = go (w .ahead) refl (w .leads) (w .counted) ahead-chain
       where
         go : (ss : List ℕ) → w .ahead ≡ ss → at ≡ linkTo ss → left ≡ howMany drops ss → Chain links (linkTo ss) ss
-            → (w′ : Pruning heads links freed at (getD links (at - 1) 0) left) × (suc (length (w′ .ahead)) ≡ length (w .ahead))
+            → Step heads links freed last at left w heads links freed at (getD links (at - 1) 0) left
         go [] same leads counted chain = absurd (ne counted)
         go (s ∷ ss) same leads counted chain =
             let at-slot : at - 1 ≡ s = omega (arith, leads) in
@@ -196,9 +202,9 @@ module _ (drops : ℕ → Bool) (x : ℕ) (heads₀ links₀ : List ℕ) (slots 
           links-rest = w .links-rest;
         }
 
-  -- Each step leaves less ahead.
+  -- So a walk from there is shorter.
   pub prune-falls : x < pieceSize → (heads links : List ℕ) (freed last at left : ℕ) (heads′ links′ : List ℕ) (freed′ last′ at′ left′ : ℕ)
-      (w : Pruning heads links freed last at left) (w′ : Pruning heads′ links′ freed′ last′ at′ left′) → suc (length (w′ .ahead)) ≡ length (w .ahead)
+      (w : Pruning heads links freed last at left) → Step heads links freed last at left w heads′ links′ freed′ last′ at′ left′
       → length (slotsFrom pieceSize links′ at′) < length (slotsFrom pieceSize links at)
-  prune-falls here heads links freed last at left heads′ links′ freed′ last′ at′ left′ w w′ less =
-      rw (prune-walk here heads links freed last at left w, prune-walk here heads′ links′ freed′ last′ at′ left′ w′) (omega arith)
+  prune-falls here heads links freed last at left heads′ links′ freed′ last′ at′ left′ w next =
+      rw (prune-walk here heads links freed last at left w, prune-walk here heads′ links′ freed′ last′ at′ left′ (next .0)) (omega (arith, next .1))

@@ -1,12 +1,10 @@
 -- The visits to a location's list: what is seen of each entry is what the rules say of it, so that what is seen in the end is what they say of the whole
 -- list. Assumes nothing.
-use Prim.Native.Nat.{ℕ, zero, suc, _+_, _-_, _≤_, _<_}
+use Prim.Native.Nat.{ℕ, suc, _+_, _-_, _≤_, _<_}
 use mathlib.Core.Path.{_≡_, refl, sym, ap, _∙_}
 use mathlib.Core.Bool.{Bool, true, false, cond, not, _&&_, _||_, and-false, and-true, true≢false}
-use mathlib.Core.List.{List, [], _∷_, map}
-use mathlib.Core.Option.{Option, none, some}
+use mathlib.Core.List.{List, [], _∷_}
 use native.Mathlib.Omega.{arith}
-use lib.Dec.{eqb}
 use lib.ListN.{length, getD}
 use borrow.Author.Tests.{not-true, not-false}
 use Rattle.locks.specs.Sets.{apart, within}
@@ -17,9 +15,9 @@ use Rattle.bags.specs.Ask.{saysParallel, codeOf}
 use Rattle.kept.specs.declared.Entry.{Entry}
 use Rattle.kept.specs.declared.Seen.{Seen}
 use Rattle.kept.specs.Rules.{races, dropped, leavesOut}
-use Rattle.kept.specs.Pieces.{pieceSize, slotsOf, Chain}
-use Rattle.kept.specs.Access.{parallelBy, inNoBag}
-use Rattle.kept.specs.Parts.{saysNoBag, entryOf, nothingSeen, weighed, weighedEntry, seenOver, Walkable}
+use Rattle.kept.specs.Pieces.{pieceSize, Chain}
+use Rattle.kept.specs.Access.{parallelBy}
+use Rattle.kept.specs.Parts.{saysNoBag, entryOf, nothingSeen, weighed, weighedEntry, seenOver}
 
 -- ---- one entry
 

@@ -10,26 +10,23 @@ use Rattle.kept.proofs.Telling.{Told, seen-tells, room-walkable}
 use Rattle.kept.proofs.Accepting.{answer-no-bag, answer-full, answer-done}
 use Rattle.kept.proofs.access.Statement.{statement}
 use Rattle.kept.proofs.access.Tie as tie
-use Rattle.kept.proofs.access.Reads as reads
-use Rattle.kept.proofs.access.Lts as lts
-use Rattle.kept.proofs.Seen.is_full.Reads as is-full-reads
-use Rattle.kept.proofs.change.Reads as change-reads
-use Rattle.kept.proofs.look.Reads as look-reads
-use Rattle.kept.proofs.race_at.Reads as race-at-reads
 
--- The pieces as they were lent, and what was seen of the list.
+-- What was given; the pieces as they were lent; and what was seen of the list.
+abbrev start : tie.After-look → tie.Start
+start c = c .before .before .before .before .before .before .before .before .before .before .before .before
+
 abbrev lent : tie.After-look → Pieces
-lent c = let given = c .before .before .before .before .before .before .before .before .before .before .before .before .args in pieces (given .heads .now) (given .links .now) (given .events .now) (given .procedures .now) (given .sets .now)
+lent c = let given = start c .args in pieces (given .heads .now) (given .links .now) (given .events .now) (given .procedures .now) (given .sets .now)
 
-room : (c : tie.After-look) → Room (lent c) (c .before .before .before .before .before .before .before .before .before .before .before .before .args .slots)
-room c = c .before .before .before .before .before .before .before .before .before .before .before .before .pre .1 .0
+room : (c : tie.After-look) → Room (lent c) (start c .args .slots)
+room c = start c .pre .1 .0
 
-here : (c : tie.After-look) → c .before .before .before .before .before .before .before .before .before .before .before .before .args .location < pieceSize
-here c = c .before .before .before .before .before .before .before .before .before .before .before .before .pre .1 .1
+here : (c : tie.After-look) → start c .args .location < pieceSize
+here c = start c .pre .1 .1
 
 told : (c : tie.After-look)
-    → Told (bagsIn (c .before .before .before .before .before .before .before .before .before .before .before .before .args .starts .now) (c .before .before .before .before .before .before .before .before .before .before .before .before .args .joins .now) (c .before .before .before .before .before .before .before .before .before .before .before .before .args .pairs)) (c .before .before .before .before .before .before .before .before .before .before .before .before .args .location) (c .before .before .before .before .before .before .before .before .before .before .before .before .args .entry) (lent c)
-    (c .before .before .before .before .before .before .before .before .before .before .before .before .args .slots) (c .look .result)
+    → Told (bagsIn (start c .args .starts .now) (start c .args .joins .now) (start c .args .pairs)) (start c .args .location) (start c .args .entry) (lent c)
+    (start c .args .slots) (c .look .result)
 told c = seen-tells _ _ _ (lent c) _ (c .look .result) (room-walkable _ _ _ (room c) (here c)) (c .look .ensures)
 
 look-requires : tie.Need-look-requires

@@ -4,11 +4,6 @@ use lib.ListN.{length-set}
 use borrow.Author.Needs.{needs}
 use Rattle.kept.proofs.append.Statement.{statement}
 use Rattle.kept.proofs.append.Tie as tie
-use Rattle.kept.proofs.append.Reads as reads
-use Rattle.kept.proofs.append.Lts as lts
-use Rattle.kept.proofs.relink.Reads as relink-reads
-use Rattle.kept.proofs.slot_for.Reads as slot-for-reads
-use Rattle.kept.proofs.slots_then.Reads as slots-then-reads
 
 slot-for-requires : tie.Need-slot-for-requires
 slot-for-requires c κs = search needs

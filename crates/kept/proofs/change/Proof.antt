@@ -11,28 +11,27 @@ use Rattle.kept.proofs.Telling.{Told, seen-tells, dropped-counted, room
 use Rattle.kept.proofs.Accepting.{left-out, append-fits, entry-added}
 use Rattle.kept.proofs.change.Statement.{statement}
 use Rattle.kept.proofs.change.Tie as tie
-use Rattle.kept.proofs.change.Reads as reads
-use Rattle.kept.proofs.change.Lts as lts
-use Rattle.kept.proofs.append.Reads as append-reads
-use Rattle.kept.proofs.prune.Reads as prune-reads
 
--- The pieces as they were lent, and what was seen of the list.
+-- What was given; the pieces as they were lent; and what was seen of the list.
+abbrev start : tie.After-prune-arg4 → tie.Start
+start c = c .before .before .before .before .before .before .before .before .before .before .before
+
 abbrev lent : tie.After-prune-arg4 → Pieces
-lent c = let given = c .before .before .before .before .before .before .before .before .before .before .before .args in pieces (given .heads .now) (given .links .now) (given .events .now) (given .procedures .now) (given .sets .now)
+lent c = let given = start c .args in pieces (given .heads .now) (given .links .now) (given .events .now) (given .procedures .now) (given .sets .now)
 
-room : (c : tie.After-prune-arg4) → Room (lent c) (c .before .before .before .before .before .before .before .before .before .before .before .args .slots)
-room c = c .before .before .before .before .before .before .before .before .before .before .before .pre .1 .0
+room : (c : tie.After-prune-arg4) → Room (lent c) (start c .args .slots)
+room c = start c .pre .1 .0
 
-here : (c : tie.After-prune-arg4) → c .before .before .before .before .before .before .before .before .before .before .before .args .location < pieceSize
-here c = c .before .before .before .before .before .before .before .before .before .before .before .pre .1 .1 .0
+here : (c : tie.After-prune-arg4) → start c .args .location < pieceSize
+here c = start c .pre .1 .1 .0
 
 told : (c : tie.After-prune-arg4)
-    → Told (bagsIn (c .before .before .before .before .before .before .before .before .before .before .before .args .starts .now) (c .before .before .before .before .before .before .before .before .before .before .before .args .joins .now) (c .before .before .before .before .before .before .before .before .before .before .before .args .pairs)) (c .before .before .before .before .before .before .before .before .before .before .before .args .location) (c .before .before .before .before .before .before .before .before .before .before .before .args .entry) (lent c)
-    (c .before .before .before .before .before .before .before .before .before .before .before .args .slots) (c .before .before .before .before .before .before .before .before .before .before .before .args .seen)
-told c = seen-tells _ _ _ (lent c) _ _ (room-walkable _ _ _ (room c) (here c)) (c .before .before .before .before .before .before .before .before .before .before .before .pre .1 .1 .1 .0)
+    → Told (bagsIn (start c .args .starts .now) (start c .args .joins .now) (start c .args .pairs)) (start c .args .location) (start c .args .entry) (lent c)
+    (start c .args .slots) (start c .args .seen)
+told c = seen-tells _ _ _ (lent c) _ _ (room-walkable _ _ _ (room c) (here c)) (start c .pre .1 .1 .1 .0)
 
-not-full : (c : tie.After-prune-arg4) → isFull (c .before .before .before .before .before .before .before .before .before .before .before .args .seen) (c .before .before .before .before .before .before .before .before .before .before .before .args .slots) ≡ false
-not-full c = c .before .before .before .before .before .before .before .before .before .before .before .pre .1 .1 .1 .1
+not-full : (c : tie.After-prune-arg4) → isFull (start c .args .seen) (start c .args .slots) ≡ false
+not-full c = start c .pre .1 .1 .1 .1
 
 prune-requires : tie.Need-prune-requires
 prune-requires c κs =

@@ -2,10 +2,6 @@
 use borrow.Author.Needs.{needs}
 use Rattle.kept.proofs.clear.Statement.{statement}
 use Rattle.kept.proofs.clear.Tie as tie
-use Rattle.kept.proofs.clear.Reads as reads
-use Rattle.kept.proofs.clear.Lts as lts
-use Rattle.kept.proofs.clear_numbers.Reads as clear-numbers-reads
-use Rattle.kept.proofs.clear_sets.Reads as clear-sets-reads
 
 clear-numbers-requires : tie.Need-clear-numbers-requires
 clear-numbers-requires c κs = search needs

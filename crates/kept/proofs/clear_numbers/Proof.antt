@@ -1,13 +1,10 @@
 -- One zero more is stored each turn. Assumes nothing.
 use Prim.Native.Nat.{_-_}
-use native.Mathlib.Omega.{arith}
 use borrow.Author.Needs.{needs}
 use Rattle.kept.specs.Pieces.{pieceSize}
 use Rattle.kept.proofs.Clearing.{Clearing, clearing-begins, clearing-goes-on, clearing-ends}
 use Rattle.kept.proofs.clear_numbers.Statement.{statement}
 use Rattle.kept.proofs.clear_numbers.Tie as tie
-use Rattle.kept.proofs.clear_numbers.Reads as reads
-use Rattle.kept.proofs.clear_numbers.Lts as lts
 
 abbrev Inv-loop : tie.InvT-loop
 Inv-loop piece₀ i₀ piece i = Clearing piece₀ piece i

@@ -2,11 +2,6 @@ use borrow.Author.Needs.{needs}
 use Rattle.kept.proofs.Visits.{not-dropped-unasked, dropped-asked}
 use Rattle.kept.proofs.drops.Statement.{statement}
 use Rattle.kept.proofs.drops.Tie as tie
-use Rattle.kept.proofs.drops.Reads as reads
-use Rattle.kept.proofs.drops.Lts as lts
-use Rattle.bags.proofs.ask.Pairs.ask.Reads as ask-reads
-use Rattle.kept.proofs.says_parallel.Reads as says-parallel-reads
-use Rattle.locks.proofs.within.Reads as within-reads
 
 within-requires : tie.Need-within-requires
 within-requires c κs = search needs

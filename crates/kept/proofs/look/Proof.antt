@@ -7,9 +7,6 @@ use Rattle.kept.specs.Pieces.{pieceSize, slotsOf}
 use Rattle.kept.proofs.Visits.{Walking, walk-begins, walk-inside, one-visit-more, walk-goes-on, walk-ends}
 use Rattle.kept.proofs.look.Statement.{statement}
 use Rattle.kept.proofs.look.Tie as tie
-use Rattle.kept.proofs.look.Reads as reads
-use Rattle.kept.proofs.look.Lts as lts
-use Rattle.kept.proofs.weigh.Reads as weigh-reads
 
 abbrev Inv-loop : tie.InvT-loop
 Inv-loop heads links procedures sets location entry pairs starts joins seen₀ at₀ seen at =

@@ -1,19 +1,17 @@
 -- `prune` walks the list until none is left to drop; each step is a law of `Pruning`. Assumes nothing.
-use Prim.Native.Nat.{_≤_, _<_}
+use Prim.Native.Nat.{ℕ, _-_, _≤_, _<_}
 use mathlib.Core.Path.{sym, _∙_}
+use mathlib.Core.Bool.{Bool}
+use mathlib.Core.List.{List}
 use native.Mathlib.Omega.{arith}
-use lib.ListN.{length}
+use lib.ListN.{length, getD, set}
 use borrow.Author.Needs.{needs}
 use Rattle.bags.specs.Runs.{bagsIn}
 use Rattle.kept.specs.Pieces.{pieceSize, slotsFrom}
 use Rattle.kept.specs.Parts.{dropsBy}
-use Rattle.kept.proofs.Pruning.{Pruning, prune-begins, prune-inside, prune-walk, prune-drops, prune-stays, prune-ends, prune-falls}
+use Rattle.kept.proofs.Pruning.{Pruning, Step, prune-begins, prune-inside, prune-drops, prune-stays, prune-ends, prune-falls}
 use Rattle.kept.proofs.prune.Statement.{statement}
 use Rattle.kept.proofs.prune.Tie as tie
-use Rattle.kept.proofs.prune.Reads as reads
-use Rattle.kept.proofs.prune.Lts as lts
-use Rattle.kept.proofs.drops.Reads as drops-reads
-use Rattle.kept.proofs.relink.Reads as relink-reads
 
 abbrev Inv-loop : tie.InvT-loop
 Inv-loop heads₀ links₀ procedures sets location entry slots count pairs starts joins freed₀ last₀ at₀ left₀ heads links freed last at left =
@@ -32,9 +30,13 @@ slice-read-at c = search needs
 loop-holds : tie.Need-loop-holds Inv-loop μ-loop
 loop-holds c = prune-begins _ _ _ _ _ _ (search needs) (search needs) (search needs)
 
--- What is asked of the call, and that heads and links are as long as they were.
-asked : (a : tie.At-loop Inv-loop μ-loop) → (a .before .before .before .before .before .before .before .before .args .location < pieceSize) × (pieceSize ≤ length (a .before .before .before .before .before .before .before .before .args .heads .now)) × (pieceSize ≤ length (a .before .before .before .before .before .before .before .before .args .links .now))
-asked a = (a .before .before .before .before .before .before .before .before .pre .1 .0, a .before .before .before .before .before .before .before .before .pre .1 .1 .0, a .before .before .before .before .before .before .before .before .pre .1 .1 .1 .0)
+-- What was given, and what is asked of it; heads and links are as long as they were.
+abbrev start : tie.At-loop Inv-loop μ-loop → tie.Start Inv-loop μ-loop
+start a = a .before .before .before .before .before .before .before .before
+
+asked : (a : tie.At-loop Inv-loop μ-loop)
+    → (start a .args .location < pieceSize) × (pieceSize ≤ length (start a .args .heads .now)) × (pieceSize ≤ length (start a .args .links .now))
+asked a = (start a .pre .1 .0, start a .pre .1 .1 .0, start a .pre .1 .1 .1 .0)
 
 fits : (a : tie.At-loop Inv-loop μ-loop) → (pieceSize ≤ length (a .loop .heads)) × (pieceSize ≤ length (a .loop .links))
 fits a = (omega (arith, asked a, a .loop .inv .heads-rest .same-length), omega (arith, asked a, a .loop .inv .links-rest .same-length))
@@ -43,12 +45,41 @@ fits a = (omega (arith, asked a, a .loop .inv .heads-rest .same-length), omega (
 inside : (c : tie.In-loop Inv-loop μ-loop) → (0 < c .before .loop .at) × (c .before .loop .at ≤ pieceSize) × (c .before .loop .last ≤ pieceSize)
 inside c = prune-inside _ _ _ _ _ (asked (c .before) .0) _ _ _ _ _ _ (c .before .loop .inv) (c .loop-test .taken)
 
--- Back from a slot that is dropped, and from one that stays, to the turn it belongs to; and what the bags said of it.
+-- Which slots are dropped; and the step from a turn of the loop to the state after it.
+abbrev falls : tie.At-loop Inv-loop μ-loop → ℕ → Bool
+falls a = let given = start a .args in dropsBy (bagsIn (given .starts .now) (given .joins .now) (given .pairs)) (given .entry) (given .procedures .now) (given .sets .now)
+
+abbrev StepFrom : tie.At-loop Inv-loop μ-loop → List ℕ → List ℕ → ℕ → ℕ → ℕ → ℕ → Type 0
+StepFrom a =
+    let given = start a .args in
+    let now = a .loop in
+    Step (falls a) (given .location) (given .heads .now) (given .links .now) (given .slots) (now .heads) (now .links) (now .freed) (now .last) (now .at)
+    (now .left) (now .inv)
+
+-- Back from a slot that is dropped, and from one that stays, to its turn; and the step that is made.
 abbrev turn-of-dropped : tie.After-slice-known6 Inv-loop μ-loop → tie.In-loop Inv-loop μ-loop
 turn-of-dropped c = c .before .before .before .before .before .before .before .before .before .before .before .before
 
 abbrev turn-of-staying : tie.Else1 Inv-loop μ-loop → tie.In-loop Inv-loop μ-loop
 turn-of-staying c = c .before .before .before .before .before
+
+dropped : (c : tie.After-slice-known6 Inv-loop μ-loop)
+    → let now = turn-of-dropped c .before .loop in
+    let left = c .before .before .before .before .relink .last in
+    StepFrom (turn-of-dropped c .before) (left .0) (set (left .1 .0) (now .at - 1) (now .freed)) (now .at) (now .last) (getD (now .links) (now .at - 1) 0) (now .left - 1)
+dropped c =
+    let turn = turn-of-dropped c in
+    let given = asked (turn .before) in
+    let told = sym (c .before .before .before .before .before .before .before .before .drops .ensures) ∙ c .before .before .before .before .before .before .before .if1 .taken in
+    let relinked = c .before .before .before .before .relink .ensures in
+    prune-drops _ _ _ _ _ (given .0) _ _ _ _ _ _ (turn .before .loop .inv) (given .1) (given .2) _ _ (turn .loop-test .taken) told (relinked .0) (relinked .1)
+
+stayed : (c : tie.Else1 Inv-loop μ-loop)
+    → let now = turn-of-staying c .before .loop in
+    StepFrom (turn-of-staying c .before) (now .heads) (now .links) (now .freed) (now .at) (getD (now .links) (now .at - 1) 0) (now .left)
+stayed c =
+    let turn = turn-of-staying c in
+    prune-stays _ _ _ _ _ (asked (turn .before) .0) _ _ _ _ _ _ (turn .before .loop .inv) (turn .loop-test .taken) (sym (c .before .drops .ensures) ∙ c .if1 .left)
 
 sub-slot : tie.Need-sub-slot Inv-loop μ-loop
 sub-slot c = omega (arith, inside c)
@@ -90,36 +121,16 @@ sub-left : tie.Need-sub-left Inv-loop μ-loop
 sub-left c = omega (arith, turn-of-dropped c .loop-test .taken)
 
 loop-less : tie.Need-loop-less Inv-loop μ-loop
-loop-less c =
-    let turn = turn-of-dropped c in
-    let given = asked (turn .before) in
-    let told = sym (c .before .before .before .before .before .before .before .before .drops .ensures) ∙ c .before .before .before .before .before .before .before .if1 .taken in
-    let relinked = c .before .before .before .before .relink .ensures in
-    let next = prune-drops _ _ _ _ _ (given .0) _ _ _ _ _ _ (turn .before .loop .inv) (given .1) (given .2) _ _ (turn .loop-test .taken) told (relinked .0) (relinked .1) in
-    prune-falls _ _ _ _ _ (given .0) _ _ _ _ _ _ _ _ _ _ _ _ (turn .before .loop .inv) (next .0) (next .1)
+loop-less c = prune-falls _ _ _ _ _ (asked (turn-of-dropped c .before) .0) _ _ _ _ _ _ _ _ _ _ _ _ (turn-of-dropped c .before .loop .inv) (dropped c)
 
 loop-again : tie.Need-loop-again Inv-loop μ-loop
-loop-again c =
-    let turn = turn-of-dropped c in
-    let given = asked (turn .before) in
-    let told = sym (c .before .before .before .before .before .before .before .before .drops .ensures) ∙ c .before .before .before .before .before .before .before .if1 .taken in
-    let relinked = c .before .before .before .before .relink .ensures in
-    let next = prune-drops _ _ _ _ _ (given .0) _ _ _ _ _ _ (turn .before .loop .inv) (given .1) (given .2) _ _ (turn .loop-test .taken) told (relinked .0) (relinked .1) in
-    next .0
+loop-again c = dropped c .0
 
 loop-less-2 : tie.Need-loop-less-2 Inv-loop μ-loop
-loop-less-2 c =
-    let turn = turn-of-staying c in
-    let given = asked (turn .before) in
-    let next = prune-stays _ _ _ _ _ (given .0) _ _ _ _ _ _ (turn .before .loop .inv) (turn .loop-test .taken) (sym (c .before .drops .ensures) ∙ c .if1 .left) in
-    prune-falls _ _ _ _ _ (given .0) _ _ _ _ _ _ _ _ _ _ _ _ (turn .before .loop .inv) (next .0) (next .1)
+loop-less-2 c = prune-falls _ _ _ _ _ (asked (turn-of-staying c .before) .0) _ _ _ _ _ _ _ _ _ _ _ _ (turn-of-staying c .before .loop .inv) (stayed c)
 
 loop-again-2 : tie.Need-loop-again-2 Inv-loop μ-loop
-loop-again-2 c =
-    let turn = turn-of-staying c in
-    let given = asked (turn .before) in
-    let next = prune-stays _ _ _ _ _ (given .0) _ _ _ _ _ _ (turn .before .loop .inv) (turn .loop-test .taken) (sym (c .before .drops .ensures) ∙ c .if1 .left) in
-    next .0
+loop-again-2 c = stayed c .0
 
 same-length : tie.Need-same-length Inv-loop μ-loop
 same-length c = c .before .loop .inv .heads-rest .same-length

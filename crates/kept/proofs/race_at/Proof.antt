@@ -2,8 +2,6 @@ use borrow.Author.Needs.{needs}
 use Rattle.kept.proofs.Linking.{race-named}
 use Rattle.kept.proofs.race_at.Statement.{statement}
 use Rattle.kept.proofs.race_at.Tie as tie
-use Rattle.kept.proofs.race_at.Reads as reads
-use Rattle.kept.proofs.race_at.Lts as lts
 
 returns : tie.Need-returns
 returns c = search needs

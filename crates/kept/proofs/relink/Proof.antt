@@ -2,8 +2,6 @@ use borrow.Author.Needs.{needs}
 use Rattle.kept.proofs.Linking.{linked-first, linked-after}
 use Rattle.kept.proofs.relink.Statement.{statement}
 use Rattle.kept.proofs.relink.Tie as tie
-use Rattle.kept.proofs.relink.Reads as reads
-use Rattle.kept.proofs.relink.Lts as lts
 
 mul-heads : tie.Need-mul-heads
 mul-heads c = search needs

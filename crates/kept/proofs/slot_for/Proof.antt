@@ -2,8 +2,6 @@ use borrow.Author.Needs.{needs}
 use borrow.Author.Tests.{eq-eqb, ne-eqb}
 use Rattle.kept.proofs.slot_for.Statement.{statement}
 use Rattle.kept.proofs.slot_for.Tie as tie
-use Rattle.kept.proofs.slot_for.Reads as reads
-use Rattle.kept.proofs.slot_for.Lts as lts
 
 sub-result : tie.Need-sub-result
 sub-result c = search needs

@@ -2,8 +2,6 @@ use borrow.Author.Needs.{needs}
 use borrow.Author.Tests.{eq-eqb, ne-eqb}
 use Rattle.kept.proofs.slots_then.Statement.{statement}
 use Rattle.kept.proofs.slots_then.Tie as tie
-use Rattle.kept.proofs.slots_then.Reads as reads
-use Rattle.kept.proofs.slots_then.Lts as lts
 
 add-t4 : tie.Need-add-t4
 add-t4 c = search needs

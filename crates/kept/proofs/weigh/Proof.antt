@@ -2,15 +2,6 @@ use borrow.Author.Needs.{needs}
 use Rattle.kept.proofs.Visits.{weighed-unasked, weighed-asked}
 use Rattle.kept.proofs.weigh.Statement.{statement}
 use Rattle.kept.proofs.weigh.Tie as tie
-use Rattle.kept.proofs.weigh.Reads as reads
-use Rattle.kept.proofs.weigh.Lts as lts
-use Rattle.bags.proofs.ask.Pairs.ask.Reads as ask-reads
-use Rattle.bags.proofs.ask.Pairs.in_some_bag.Reads as in-some-bag-reads
-use Rattle.kept.proofs.Seen.with.Reads as with-reads
-use Rattle.kept.proofs.says_no_bag.Reads as says-no-bag-reads
-use Rattle.kept.proofs.says_parallel.Reads as says-parallel-reads
-use Rattle.locks.proofs.apart.Reads as apart-reads
-use Rattle.locks.proofs.within.Reads as within-reads
 
 apart-requires : tie.Need-apart-requires
 apart-requires c κs = search needs

@@ -2,9 +2,6 @@
 use borrow.Author.Needs.{needs}
 use Rattle.kept.proofs.Seen.with.Statement.{statement}
 use Rattle.kept.proofs.Seen.with.Tie as tie
-use Rattle.kept.proofs.Seen.with.Reads as reads
-use Rattle.kept.proofs.Seen.with.Lts as lts
-use Rattle.kept.proofs.pick.Reads as pick-reads
 
 add-visits : tie.Need-add-visits
 add-visits c = search needs
