@@ -24,7 +24,8 @@ use Rattle.kept.specs.Parts.{isFull, raceAt, headsLinked, linksLinked, d
 use Rattle.kept.proofs.Lists.{either-way}
 use Rattle.kept.proofs.Sums.{sum-agree, sum-changed}
 use Rattle.kept.proofs.Chains.{lastOf, chain-link, linked-heads-length, linked-length}
-use Rattle.kept.proofs.Laid.{place-here, place-twice, laid-last, laid-first, laid-next, laid-then, laid-appended, appended-links-rest, linked-heads-rest}
+use Rattle.kept.proofs.Laid.{place-here, place-twice, laid-last, laid-first, laid-next, laid-then}
+use Rattle.kept.proofs.Laid.{laid-appended, appended-links-rest, linked-heads-rest}
 use Rattle.kept.proofs.Telling.{Told}
 
 -- ---- counting
@@ -64,7 +65,8 @@ full-by-numbers false zero f (suc k) u t fit sum same = rw (same, eqb·suc-zero 
 full-by-numbers false (suc d) f k u t fit sum same = rw (eqb·suc-zero d) (sym (le-ltb pieceSize t (omega arith)))
 
 -- What is the same past the used slots is the same past one more.
-past-used : (freed : List ℕ) (used : ℕ) (links links′ : List ℕ) → drop used links ≡ drop used links′ → drop (usedThen freed used) links ≡ drop (usedThen freed used) links′
+past-used : (freed : List ℕ) (used : ℕ) (links links′ : List ℕ) → drop used links ≡ drop used links′
+    → drop (usedThen freed used) links ≡ drop (usedThen freed used) links′
 past-used [] used links links′ same =
     let one-more : used + 1 ≡ suc used = omega arith in
     rw one-more at (sym (drop-drop 1 used links) ∙ ap (drop 1) same ∙ drop-drop 1 used links′)
@@ -100,7 +102,8 @@ module _ (bs : List Bags) (x : ℕ) (e : Entry) (p : Pieces) (slots : Slots) (ro
       let before : ℕ → ℕ = λ y. length (listsIn p y) in
       let then : ℕ → ℕ = λ y. length (changedAt x (after (parallelBy bs) e) (listsIn p) y) in
       let changed = sum-changed pieceSize before then x here (λ y different. rw (ne-eqb y x different)) in
-      let held = sum-agree pieceSize (λ y. length (slotsOf (p .heads) (p .links) y)) before (λ y h. length-map (slotsOf (p .heads) (p .links) y) (entryAt p)) in
+      let slots-at : ℕ → List ℕ = slotsOf (p .heads) (p .links) in
+      let held = sum-agree pieceSize (λ y. length (slots-at y)) before (λ y h. length-map (slots-at y) (entryAt p)) in
       let same : then x ≡ length (after (parallelBy bs) e (listsIn p x)) = rw (eq-eqb x x refl) in
       omega (arith, changed, held, same, after-length, room .laid-out .total)
 
@@ -180,7 +183,9 @@ module _ (bs : List Bags) (x : ℕ) (e : Entry) (p : Pieces) (slots : Slots) (ro
     pub append-fits : seen .covered ≡ false → isFull seen slots ≡ false
         → (seen .last ≤ pieceSize) × (slots₁ .freed ≤ pieceSize) × (slots₁ .used ≤ pieceSize) × (slotFor slots₁ < pieceSize)
     append-fits uncovered room-left =
-        let last-fit = laid-last heads₁ links₁ slots₁ lists₁ freed₁ laid₁ x (slotsLeft bs x e p slots) [] here (place-here x (slotsLeft bs x e p slots) (slotsOf (p .heads) (p .links)) ∙ sym (append-nil (slotsLeft bs x e p slots))) in
+        let left-is = slotsLeft bs x e p slots in
+        let whole = place-here x left-is (slotsOf (p .heads) (p .links)) ∙ sym (append-nil left-is) in
+        let last-fit = laid-last heads₁ links₁ slots₁ lists₁ freed₁ laid₁ x left-is [] here whole in
         let freed-fit = laid-first heads₁ links₁ slots₁ lists₁ freed₁ laid₁ in (
           omega (arith, last-fit, told .last-told, laid₁ .used-fit),
           omega (arith, freed-fit, laid₁ .used-fit),
@@ -191,7 +196,8 @@ module _ (bs : List Bags) (x : ℕ) (e : Entry) (p : Pieces) (slots : Slots) (ro
     -- The entry is added.
     pub entry-added : seen .covered ≡ false → isFull seen slots ≡ false
         → {r : Slots} {heads′ links′ events′ procedures′ sets′ : List ℕ} → r ≡ slotsThen links₁ slots₁
-        → heads′ ≡ headsLinked (seen .last) x (slotFor slots₁ + 1) heads₁ → links′ ≡ linksLinked (seen .last) (slotFor slots₁ + 1) (set links₁ (slotFor slots₁) 0)
+        → heads′ ≡ headsLinked (seen .last) x (slotFor slots₁ + 1) heads₁
+        → links′ ≡ linksLinked (seen .last) (slotFor slots₁ + 1) (set links₁ (slotFor slots₁) 0)
         → events′ ≡ set (p .events) (slotFor slots₁) (e .event .0) → procedures′ ≡ set (p .procedures) (slotFor slots₁) (e .procedure .0)
         → sets′ ≡ set (p .sets) (slotFor slots₁) (e .locks)
         → (r ≡ slotsAfter bs x e p slots) × Accepted bs x e p slots (pieces heads′ links′ events′ procedures′ sets′)
@@ -223,9 +229,11 @@ module _ (bs : List Bags) (x : ℕ) (e : Entry) (p : Pieces) (slots : Slots) (ro
             };
             links-rest = record {
               same-length =
-                  ap length links-now ∙ linked-length (lastOf left-is) (suc next) (set links₁ next 0) ∙ length-set links₁ next 0 ∙ pruned .links-rest .same-length;
+                  ap length links-now ∙ linked-length (lastOf left-is) (suc next) (set links₁ next 0) ∙ length-set links₁ next 0
+                  ∙ pruned .links-rest .same-length;
               same-rest =
-                  rw (out, links-now) ((rw (place, pruned .same-used) at rest) ∙ past-used freed₁ (slots .used) links₁ (p .links) (pruned .links-rest .same-rest));
+                  rw (out, links-now)
+                  ((rw (place, pruned .same-used) at rest) ∙ past-used freed₁ (slots .used) links₁ (p .links) (pruned .links-rest .same-rest));
             };
             events = rw out (events-is ∙ ap (λ (n : ℕ). set (p .events) n (e .event .0)) next-is);
             procedures = rw out (procedures-is ∙ ap (λ (n : ℕ). set (p .procedures) n (e .procedure .0)) next-is);

@@ -20,12 +20,13 @@ use Rattle.kept.proofs.Sums.{sum-some}
 use Rattle.kept.proofs.Chains.{chain-link, chain-determines}
 
 -- Pieces are the same if each is.
-pub same-pieces : {heads heads′ links links′ events events′ procedures procedures′ sets sets′ : List ℕ} → heads ≡ heads′ → links ≡ links′ → events ≡ events′
-    → procedures ≡ procedures′ → sets ≡ sets′ → pieces heads links events procedures sets ≡ pieces heads′ links′ events′ procedures′ sets′
+pub same-pieces : {heads heads′ links links′ events events′ procedures procedures′ sets sets′ : List ℕ} → heads ≡ heads′ → links ≡ links′
+    → events ≡ events′ → procedures ≡ procedures′ → sets ≡ sets′ → pieces heads links events procedures sets ≡ pieces heads′ links′ events′ procedures′ sets′
 same-pieces p q r s t = simp (p, q, r, s, t)
 
 -- Two pieces that agree below n, and keep the same from n on, are the same.
-same-below-and-past : (n : ℕ) (before l l′ : List ℕ) → RestKept n before l → RestKept n before l′ → ((i : ℕ) → i < n → getD l i 0 ≡ getD l′ i 0) → l ≡ l′
+same-below-and-past : (n : ℕ) (before l l′ : List ℕ) → RestKept n before l → RestKept n before l′
+    → ((i : ℕ) → i < n → getD l i 0 ≡ getD l′ i 0) → l ≡ l′
 same-below-and-past n before l l′ kept kept′ below = ext-getD 0 l l′ (kept .same-length ∙ sym (kept′ .same-length)) same
   where
     same : (i : ℕ) → i < length l → getD l i 0 ≡ getD l′ i 0
@@ -53,7 +54,8 @@ module _ (heads links heads′ links′ : List ℕ) (slots : Slots) (lists : ℕ
             let one : sumBelow pieceSize (λ y. timesIn s (lists y)) + timesIn s freed ≡ 1 = rw (lt-ltb s (slots .used) h) at (laid .once s) in
             let found = sum-some pieceSize (λ y. timesIn s (lists y)) (omega arith) in
             let y = found .0 in
-            chain-determines links links′ (getD heads y 0) (getD heads′ y 0) (lists y) s (laid .chains y (found .1)) (laid′ .chains y (found .1)) (found .2)
+            chain-determines links links′ (getD heads y 0) (getD heads′ y 0) (lists y) s (laid .chains y (found .1))
+            (laid′ .chains y (found .1)) (found .2)
       ]
 
 module _ (bs : List Bags) (x : ℕ) (e : Entry) (p : Pieces) (slots : Slots) (p′ p″ : Pieces) where

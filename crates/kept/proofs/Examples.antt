@@ -133,8 +133,8 @@ first-is-named = refl
 
 -- ---- what is seen of a list
 
--- Slots 0 and 1 hold two entries of main, under no lock and under lock 0; the new access has lock 0. Both are visited though none races; the second is to
--- be dropped, so the last that stays is in slot 0, which the link 1 names.
+-- Slots 0 and 1 hold two entries of main, under no lock and under lock 0; the new access has lock 0. Both are visited though none races; the second
+-- is to be dropped, so the last that stays is in slot 0, which the link 1 names.
 pub seen-of-two :
     seenOver mainRuns (new 1) (0 ∷ 0 ∷ []) (0 ∷ 1 ∷ []) (0 ∷ 1 ∷ []) nothingSeen
     ≡ record { visits = 2; race = 0; covered = false; dropped = 1; stray = false; last = 1 }

@@ -5,6 +5,7 @@ use mathlib.Core.List.{List}
 use native.Mathlib.Omega.{arith}
 use lib.ListN.{getD, set}
 use Rattle.kept.specs.declared.Race.the-variants.{With}
+use Rattle.kept.specs.Pieces.{entryIn}
 use Rattle.kept.specs.Parts.{raceAt, headsLinked, linksLinked}
 
 -- The number below a successor.
@@ -13,8 +14,7 @@ one-less s = omega arith
 
 -- A link that is not 0 names an entry.
 pub race-named : (events procedures sets : List ℕ) (at : ℕ) → (at ≡ 0 → ⊥)
-    → With (record { event = record { 0 = getD events (at - 1) 0 }; procedure = record { 0 = getD procedures (at - 1) 0 }; locks = getD sets (at - 1) 0 })
-    ≡ raceAt events procedures sets at
+    → With (entryIn events procedures sets (at - 1)) ≡ raceAt events procedures sets at
 race-named events procedures sets zero ne = absurd (ne refl)
 race-named events procedures sets (suc s) ne = simp (one-less s)
 

@@ -88,6 +88,13 @@ module _ (drops : ℕ → Bool) (x : ℕ) (heads₀ links₀ : List ℕ) (slots 
       (w′ : Pruning heads′ links′ freed′ last′ at′ left′) × (suc (length (w′ .ahead)) ≡ length (w .ahead))
 
   module _ (here : x < pieceSize) (heads links : List ℕ) (freed last at left : ℕ) (w : Pruning heads links freed last at left) where
+    -- The layout by now.
+    abbrev slots′ : Slots
+    slots′ = record { freed = freed; used = slots .used }
+
+    abbrev lists : ℕ → List ℕ
+    lists = placeAt x (w .passed ++ w .ahead) (slotsOf heads₀ links₀)
+
     -- The slots ahead are those that a walk finds.
     ahead-chain : Chain links (linkTo (w .ahead)) (w .ahead)
     ahead-chain =
@@ -96,7 +103,7 @@ module _ (drops : ℕ → Bool) (x : ℕ) (heads₀ links₀ : List ℕ) (slots 
 
     ahead-few : length (w .ahead) ≤ pieceSize
     ahead-few =
-        let few = laid-few heads links (record { freed = freed; used = slots .used }) (placeAt x (w .passed ++ w .ahead) (slotsOf heads₀ links₀)) (w .pool) (w .laid) x here in
+        let few = laid-few heads links slots′ lists (w .pool) (w .laid) x here in
         omega (arith, rw (place-here x (w .passed ++ w .ahead) (slotsOf heads₀ links₀)) at few, length-append (w .passed) (w .ahead))
 
     pub prune-walk : slotsFrom pieceSize links at ≡ w .ahead
@@ -110,7 +117,8 @@ module _ (drops : ℕ → Bool) (x : ℕ) (heads₀ links₀ : List ℕ) (slots 
         go : (ss : List ℕ) → at ≡ linkTo ss → left ≡ howMany drops ss → Chain links (linkTo ss) ss → (0 < at) × (at ≤ pieceSize) × (last ≤ pieceSize)
         go [] leads counted chain = absurd (ne counted)
         go (s ∷ ss) leads counted chain =
-            let last-fit = laid-last heads links (record { freed = freed; used = slots .used }) (placeAt x (w .passed ++ w .ahead) (slotsOf heads₀ links₀)) (w .pool) (w .laid) x (w .passed) (w .ahead) here (place-here x (w .passed ++ w .ahead) (slotsOf heads₀ links₀)) in
+            let whole = place-here x (w .passed ++ w .ahead) (slotsOf heads₀ links₀) in
+            let last-fit = laid-last heads links slots′ lists (w .pool) (w .laid) x (w .passed) (w .ahead) here whole in
             (omega arith, omega (arith, chain .1), omega (arith, last-fit, w .named, w .laid .used-fit))
 
     -- A slot that is dropped is detached and freed.
@@ -128,8 +136,6 @@ module _ (drops : ℕ → Bool) (x : ℕ) (heads₀ links₀ : List ℕ) (slots 
         go (s ∷ ss) same leads counted chain =
             let at-slot : at - 1 ≡ s = omega (arith, leads) in
             let falls-here : drops s ≡ true = rw at-slot at falls in
-            let slots′ : Slots = record { freed = freed; used = slots .used } in
-            let lists : ℕ → List ℕ = placeAt x (w .passed ++ w .ahead) (slotsOf heads₀ links₀) in
             let split : lists x ≡ w .passed ++ s ∷ ss =
             place-here x (w .passed ++ w .ahead) (slotsOf heads₀ links₀) ∙ ap (λ (t : List ℕ). w .passed ++ t) same in
             let next = getD links s 0 in

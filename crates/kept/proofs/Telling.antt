@@ -162,18 +162,20 @@ module _ (bs : List Bags) (x : ℕ) (e : Entry) (p : Pieces) (slots : Slots) whe
   unfolding listsIn named dropped leavesOut races
   seen-tells seen walkable is =
       let ss = slotsOf (p .heads) (p .links) x in
-      let race = ap (λ (s : Seen). s .race) is ∙ race-seen bs e (p .procedures) (p .sets) ss nothingSeen in
+      let procedures = p .procedures in
+      let sets = p .sets in
+      let race = ap (λ (s : Seen). s .race) is ∙ race-seen bs e procedures sets ss nothingSeen in
       record {
         visits-told =
-            ap (λ (s : Seen). s .visits) is ∙ visits-seen bs e (p .procedures) (p .sets) ss nothingSeen ∙ zero-more (length ss) ∙ sym (length-map ss (entryAt p));
-        stray-told = ap (λ (s : Seen). s .stray) is ∙ stray-seen bs e (p .procedures) (p .sets) ss nothingSeen ∙ sym (any-of-map (entryAt p) (inNoBag bs) ss);
+            ap (λ (s : Seen). s .visits) is ∙ visits-seen bs e procedures sets ss nothingSeen ∙ zero-more (length ss) ∙ sym (length-map ss (entryAt p));
+        stray-told = ap (λ (s : Seen). s .stray) is ∙ stray-seen bs e procedures sets ss nothingSeen ∙ sym (any-of-map (entryAt p) (inNoBag bs) ss);
         covered-told =
-            ap (λ (s : Seen). s .covered) is ∙ covered-seen bs e (p .procedures) (p .sets) ss nothingSeen
+            ap (λ (s : Seen). s .covered) is ∙ covered-seen bs e procedures sets ss nothingSeen
             ∙ sym (any-of-map (entryAt p) (leavesOut (parallelBy bs) e) ss);
         dropped-told =
-            ap (λ (s : Seen). s .dropped) is ∙ dropped-seen bs e (p .procedures) (p .sets) ss nothingSeen ∙ zero-more (howMany (drops bs x e p slots) ss);
-        last-told = ap (λ (s : Seen). s .last) is ∙ last-seen bs e (p .procedures) (p .sets) ss nothingSeen ∙ last-from-none (slotsLeft bs x e p slots);
-        race-told = ap (raceAt (p .events) (p .procedures) (p .sets)) race ∙ race-found p (races (parallelBy bs) e) ss;
+            ap (λ (s : Seen). s .dropped) is ∙ dropped-seen bs e procedures sets ss nothingSeen ∙ zero-more (howMany (drops bs x e p slots) ss);
+        last-told = ap (λ (s : Seen). s .last) is ∙ last-seen bs e procedures sets ss nothingSeen ∙ last-from-none (slotsLeft bs x e p slots);
+        race-told = ap (raceAt (p .events) procedures sets) race ∙ race-found p (races (parallelBy bs) e) ss;
         race-fit = rw race (race-fits (p .links) (getD (p .heads) x 0) (λ s. races (parallelBy bs) e (entryAt p s)) ss (walkable .chain));
       }
 

@@ -1,5 +1,5 @@
--- The visits to a location's list: what is seen of each entry is what the rules say of it, so that what is seen in the end is what they say of the whole
--- list. Assumes nothing.
+-- The visits to a location's list: what is seen of each entry is what the rules say of it, so that what is seen in the end is what they say of the
+-- whole list. Assumes nothing.
 use Prim.Native.Nat.{ℕ, suc, _+_, _-_, _≤_, _<_}
 use mathlib.Core.Path.{_≡_, refl, sym, ap, _∙_}
 use mathlib.Core.Bool.{Bool, true, false, cond, not, _&&_, _||_, and-false, and-true, true≢false}
@@ -112,7 +112,9 @@ module _ (bs : List Bags) (e : Entry) (links procedures sets whole : List ℕ) w
             rest = ss;
             chain = rw here (chain .2);
             counted = rw now (omega arith);
-            fewer = rw now (few-more (dropped (parallelBy bs) e (entryOf (getD procedures s 0) (getD sets s 0))) (seen .dropped) (seen .visits) (w .fewer));
+            fewer =
+                rw now
+                (few-more (dropped (parallelBy bs) e (entryOf (getD procedures s 0) (getD sets s 0))) (seen .dropped) (seen .visits) (w .fewer));
             same = ap (seenOver bs e procedures sets ss) now ∙ same;
           }
 

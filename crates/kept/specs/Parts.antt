@@ -15,7 +15,7 @@ use Rattle.kept.specs.declared.Race.{Race}
 use Rattle.kept.specs.declared.Race.the-variants.{Nobody, With}
 use Rattle.kept.specs.Lists.{those}
 use Rattle.kept.specs.Rules.{races, dropped, leavesOut}
-use Rattle.kept.specs.Pieces.{pieceSize, slotsOf, slotsFreed, Chain, LaidOut, RestKept}
+use Rattle.kept.specs.Pieces.{pieceSize, entryIn, slotsOf, slotsFreed, Chain, LaidOut, RestKept}
 use Rattle.kept.specs.Access.{parallelBy, inNoBag, placeAt, freeing}
 
 -- The bags' answer says that a procedure is in no bag.
@@ -64,7 +64,7 @@ pub record Walkable (heads links : List ℕ) (x : ℕ) : Type 0 where
 -- The entry that a link names.
 abbrev pub raceAt : List ℕ → List ℕ → List ℕ → ℕ → Race
 raceAt events procedures sets zero = Nobody
-raceAt events procedures sets (suc s) = With (record { event = record { 0 = getD events s 0 }; procedure = record { 0 = getD procedures s 0 }; locks = getD sets s 0 })
+raceAt events procedures sets (suc s) = With (entryIn events procedures sets s)
 
 -- What comes after slot `last - 1` of a location's list, or first in it where `last` is 0, is now what the link `to` leads to.
 abbrev pub headsLinked : ℕ → ℕ → ℕ → List ℕ → List ℕ

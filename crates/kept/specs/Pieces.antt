@@ -39,8 +39,11 @@ unfoldable pub slotsFreed : List ℕ → Slots → List ℕ
 slotsFreed links slots = slotsFrom pieceSize links (slots .freed)
 
 -- The entry in a slot, and the list of a location.
+abbrev pub entryIn : List ℕ → List ℕ → List ℕ → ℕ → Entry
+entryIn events procedures sets s = record { event = record { 0 = getD events s 0 }; procedure = record { 0 = getD procedures s 0 }; locks = getD sets s 0 }
+
 abbrev pub entryAt : Pieces → ℕ → Entry
-entryAt p s = record { event = record { 0 = getD (p .events) s 0 }; procedure = record { 0 = getD (p .procedures) s 0 }; locks = getD (p .sets) s 0 }
+entryAt p = entryIn (p .events) (p .procedures) (p .sets)
 
 unfoldable pub listsIn : Pieces → Lists
 listsIn p y = map (entryAt p) (slotsOf (p .heads) (p .links) y)
@@ -55,8 +58,8 @@ unfoldable pub timesIn : ℕ → List ℕ → ℕ
 timesIn s [] = 0
 timesIn s (t ∷ ts) = cond (eqb s t) 1 0 + timesIn s ts
 
--- Heads and links are laid out as these lists of slots, one a location, and these slots freed: each slot below `used` stands in one of them, once, and no
--- other slot in any; so their lengths add up to `used`.
+-- Heads and links are laid out as these lists of slots, one a location, and these slots freed: each slot below `used` stands in one of them, once,
+-- and no other slot in any; so their lengths add up to `used`.
 pub record LaidOut (heads links : List ℕ) (slots : Slots) (lists : ℕ → List ℕ) (freed : List ℕ) : Type 0 where
   pub used-fit : slots .used ≤ pieceSize
   pub chains : (y : ℕ) → y < pieceSize → Chain links (getD heads y 0) (lists y)

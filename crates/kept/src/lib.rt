@@ -12,7 +12,8 @@ ghost use Rattle.bags.specs.Ask.{saysParallel};
 ghost use Rattle.kept.specs.Rules.{dropped};
 ghost use Rattle.kept.specs.Pieces.{pieceSize, pieces, slotsOf, slotsFreed, listsIn, LaidOut, Fits, Room, noneUsed, cleared};
 ghost use Rattle.kept.specs.Access.{parallelBy, accessed, slotsAfter, Accepted, AfterAccess};
-ghost use Rattle.kept.specs.Parts.{entryOf, saysNoBag, nothingSeen, weighed, weighedEntry, seenOver, isFull, Walkable, raceAt, headsLinked, linksLinked, dropsBy, howMany, Pruned, slotFor, slotsThen};
+ghost use Rattle.kept.specs.Parts.{entryOf, saysNoBag, nothingSeen, weighed, weighedEntry, seenOver, isFull, Walkable, raceAt};
+ghost use Rattle.kept.specs.Parts.{headsLinked, linksLinked, dropsBy, howMany, Pruned, slotFor, slotsThen};
 use bags::ask::Answer;
 use bags::ask::Pairs;
 use bags::ask::ProcedureNumber;
@@ -49,9 +50,9 @@ pub enum Accessed {
     Full,
 }
 
-// What the visits to a list have found so far: how many there were, the first entry that races, whether the access is covered, how
-// many are to be dropped, whether some entry's procedure is in no bag, and the last entry that stays. An entry is named by the link to its slot, 0 for
-// none.
+// What the visits to a list have found so far: how many there were, the first entry that races, whether some entry leaves the access
+// out, how many are to be dropped, whether some entry's procedure is in no bag, and the last entry that stays. An entry is named by
+// the link to its slot, 0 for none.
 struct Seen {
     visits: u32,
     race: u32,
@@ -149,8 +150,8 @@ pub fn clear_sets(piece: &mut [u64])
     }
 }
 
-// An access to a location, the bags being as they stand before it. First the list is only read; then come the refusals; and only then do
-// the pieces change.
+// An access to a location, the bags being as they stand before it. First the list is only read; then come the refusals; and only
+// then do the pieces change.
 pub fn access(
     heads: &mut [u32],
     links: &mut [u32],
@@ -231,7 +232,8 @@ fn change(
     requires { ⌜ BagsRoom (now starts) (now joins) pairs ⌝ }
     requires { ⌜ Room (pieces (now heads) (now links) (now events) (now procedures) (now sets)) slots ⌝ }
     requires { ⌜ location < pieceSize ⌝ }
-    requires { ⌜ seen ≡ seenOver (bagsIn (now starts) (now joins) pairs) entry (now procedures) (now sets) (slotsOf (now heads) (now links) location) nothingSeen ⌝ }
+    requires { ⌜ seen ≡ seenOver (bagsIn (now starts) (now joins) pairs) entry (now procedures) (now sets)
+        (slotsOf (now heads) (now links) location) nothingSeen ⌝ }
     requires { ⌜ isFull seen slots ≡ false ⌝ }
     ensures result { λ r.
         ⌜ r ≡ slotsAfter (bagsIn (now (starts .entry)) (now (joins .entry)) pairs) location entry
@@ -441,7 +443,8 @@ fn prune(
     requires { ⌜ pieceSize ≤ length (now procedures) ⌝ }
     requires { ⌜ pieceSize ≤ length (now sets) ⌝ }
     requires { ⌜ LaidOut (now heads) (now links) slots (slotsOf (now heads) (now links)) (slotsFreed (now links) slots) ⌝ }
-    requires { ⌜ count ≡ howMany (dropsBy (bagsIn (now starts) (now joins) pairs) entry (now procedures) (now sets)) (slotsOf (now heads) (now links) location) ⌝ }
+    requires { ⌜ count ≡ howMany (dropsBy (bagsIn (now starts) (now joins) pairs) entry (now procedures) (now sets))
+        (slotsOf (now heads) (now links) location) ⌝ }
     ensures { λ r.
         ⌜ Pruned (dropsBy (bagsIn (now (starts .entry)) (now (joins .entry)) pairs) entry (now (procedures .entry)) (now (sets .entry))) location
         (now (heads .entry)) (now (links .entry)) slots (now (heads .exit)) (now (links .exit)) r ⌝ }

@@ -25,12 +25,14 @@ here : (c : tie.After-look) → start c .args .location < pieceSize
 here c = start c .pre .1 .1
 
 told : (c : tie.After-look)
-    → Told (bagsIn (start c .args .starts .now) (start c .args .joins .now) (start c .args .pairs)) (start c .args .location) (start c .args .entry) (lent c)
-    (start c .args .slots) (c .look .result)
+    → let given = start c .args in
+    Told (bagsIn (given .starts .now) (given .joins .now) (given .pairs)) (given .location) (given .entry) (lent c) (given .slots) (c .look .result)
 told c = seen-tells _ _ _ (lent c) _ (c .look .result) (room-walkable _ _ _ (room c) (here c)) (c .look .ensures)
 
 look-requires : tie.Need-look-requires
-look-requires c κs = (search needs, (room-walkable (pieces _ _ _ _ _) _ _ (c .before .before .before .before .before .before .before .before .before .before .before .pre .1 .0) (c .before .before .before .before .before .before .before .before .before .before .before .pre .1 .1), (search needs, search needs)))
+look-requires c κs =
+    let given = c .before .before .before .before .before .before .before .before .before .before .before .pre in
+    (given .0, (room-walkable (pieces _ _ _ _ _) _ _ (given .1 .0) (given .1 .1), (search needs, search needs)))
 
 same-length : tie.Need-same-length
 same-length c = search needs
@@ -75,8 +77,9 @@ race-at-requires c κs =
 
 change-requires : tie.Need-change-requires
 change-requires c κs =
-    let at = c .before .before .before .before .before .before .before .before .before .before .before .before in
-    (search needs, (room at, (here at, (at .look .ensures, sym (c .before .before .before .before .before .before .before .before .before .before .is-full .ensures) ∙ c .before .before .before .before .before .before .before .before .before .if2 .left))))
+    let full = c .before .before .before .before .before .before .before .before .before .before in
+    let at = full .before .before in
+    (start at .pre .0, (room at, (here at, (at .look .ensures, sym (full .is-full .ensures) ∙ c .before .before .before .before .before .before .before .before .before .if2 .left))))
 
 same-length-9 : tie.Need-same-length-9
 same-length-9 c = search needs
@@ -95,10 +98,14 @@ same-length-13 c = search needs
 
 returns-3 : tie.Need-returns-3
 returns-3 c =
-    let at = c .before .before .before .before .before .before .before .before .before .before .before .before .before .before .before .before .before .before .before .before .before .before .before in
-    let left = c .before .before .before .before .before .before .before .before .before .before .change .ensures in
-    let not-full = sym (c .before .before .before .before .before .before .before .before .before .before .before .before .before .before .before .before .before .before .before .before .before .is-full .ensures) ∙ c .before .before .before .before .before .before .before .before .before .before .before .before .before .before .before .before .before .before .before .before .if2 .left in
-    let answer = answer-done _ _ _ _ _ (room at) (here at) _ (told at) _ _ (c .before .before .before .before .before .before .before .before .before .before .before .before .before .before .before .before .before .before .before .before .before .before .if1 .left) not-full (c .before .before .before .before .before .before .before .before .before .before .before .before .before .before .before .before .race-at .ensures) in
+    let changed = c .before .before .before .before .before .before .before .before .before .before in
+    let raced = changed .before .before .before .before .before .before in
+    let passed = raced .before .before .before .before in
+    let at = passed .before .before .before in
+    let left = changed .change .ensures in
+    let not-full = sym (passed .before .is-full .ensures) ∙ passed .if2 .left in
+    let answer =
+    answer-done _ _ _ _ _ (room at) (here at) _ (told at) _ _ (passed .before .before .if1 .left) not-full (raced .race-at .ensures) in
     (answer ∙ ap (accessed _ _ _ _) (left .0), left .1)
 
 pub access-spec : {M : Type 1} → statement M

@@ -42,13 +42,17 @@ add-relink : tie.Need-add-relink
 add-relink c = search needs
 
 relink-requires : tie.Need-relink-requires
-relink-requires c κs = (search needs, omega (arith, length-set (c .before .before .before .before .before .before .before .before .before .before .args .links .now) (c .before .before .before .before .slot-for .result) 0))
+relink-requires c κs =
+    let number = c .before .before .before .before .slot-for .result in
+    (search needs, omega (arith, length-set (c .before .before .before .before .before .before .before .before .before .before .args .links .now) number 0))
 
 same-length : tie.Need-same-length
 same-length c = search needs
 
 same-length-2 : tie.Need-same-length-2
-same-length-2 c = c .before .before .before .before .relink .kept .1 .0 ∙ length-set (c .before .before .before .before .before .before .before .before .before .before .before .before .before .before .before .args .links .now) (c .before .before .before .before .before .before .before .before .before .slot-for .result) 0
+same-length-2 c =
+    let number = c .before .before .before .before .before .before .before .before .before .slot-for .result in
+    c .before .before .before .before .relink .kept .1 .0 ∙ length-set (c .before .before .before .before .before .before .before .before .before .before .before .before .before .before .before .args .links .now) number 0
 
 same-length-3 : tie.Need-same-length-3
 same-length-3 c = search needs
@@ -63,7 +67,8 @@ returns : tie.Need-returns
 returns c =
     let number = c .before .before .before .before .before .before .before .before .before .slot-for .ensures in
     let linked = c .before .before .before .before .relink .ensures in
-    (c .before .before .before .before .before .before .before .slots-then .ensures, (rw number at (linked .0), (rw number at (linked .1), (simp number, (simp number, simp number)))))
+    let then = c .before .before .before .before .before .before .before .slots-then .ensures in
+    (then, (rw number at (linked .0), (rw number at (linked .1), (simp number, (simp number, simp number)))))
 
 pub append-spec : {M : Type 1} → statement M
 append-spec =

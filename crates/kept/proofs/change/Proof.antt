@@ -26,8 +26,8 @@ here : (c : tie.After-prune-arg4) → start c .args .location < pieceSize
 here c = start c .pre .1 .1 .0
 
 told : (c : tie.After-prune-arg4)
-    → Told (bagsIn (start c .args .starts .now) (start c .args .joins .now) (start c .args .pairs)) (start c .args .location) (start c .args .entry) (lent c)
-    (start c .args .slots) (start c .args .seen)
+    → let given = start c .args in
+    Told (bagsIn (given .starts .now) (given .joins .now) (given .pairs)) (given .location) (given .entry) (lent c) (given .slots) (start c .args .seen)
 told c = seen-tells _ _ _ (lent c) _ _ (room-walkable _ _ _ (room c) (here c)) (start c .pre .1 .1 .1 .0)
 
 not-full : (c : tie.After-prune-arg4) → isFull (start c .args .seen) (start c .args .slots) ≡ false
@@ -77,11 +77,12 @@ returns c =
 
 append-requires : tie.Need-append-requires
 append-requires c κs =
-    let at = c .before .before .before .before .before .before .before .before .before .before .before in
-    let held = room at in
-    let rest = c .before .before .before .before .before .before .before .before .before .before .prune .ensures in
-    let fits = append-fits _ _ _ _ _ held (here at) _ (told at) _ _ _ rest (c .before .before .before .before .before .if1 .left) (not-full at) in (
-      omega (arith, here at, held .fits .heads-fit, rest .heads-rest .same-length),
+    let pruned = c .before .before .before .before .before .before .before .before .before .before in
+    let at = pruned .before in
+    let held = room at .fits in
+    let rest = pruned .prune .ensures in
+    let fits = append-fits _ _ _ _ _ (room at) (here at) _ (told at) _ _ _ rest (c .before .before .before .before .before .if1 .left) (not-full at) in (
+      omega (arith, here at, held .heads-fit, rest .heads-rest .same-length),
       (
         fits .0,
         (
@@ -90,7 +91,7 @@ append-requires c κs =
             fits .2,
             (
               fits .3,
-              (omega (arith, held .fits .links-fit, rest .links-rest .same-length), (held .fits .events-fit, (held .fits .procedures-fit, held .fits .sets-fit))),
+              (omega (arith, held .links-fit, rest .links-rest .same-length), (held .events-fit, (held .procedures-fit, held .sets-fit))),
             ),
           ),
         ),
@@ -114,9 +115,12 @@ same-length-9 c = search needs
 
 returns-2 : tie.Need-returns-2
 returns-2 c =
-    let at = c .before .before .before .before .before .before .before .before .before .before .before .before .before .before .before .before .before .before .before .before .before .before in
-    let left = c .before .before .before .before .before .before .before .before .before .before .append .ensures in
-    entry-added _ _ _ _ _ (room at) (here at) _ (told at) _ _ _ (c .before .before .before .before .before .before .before .before .before .before .before .before .before .before .before .before .before .before .before .before .before .prune .ensures) (c .before .before .before .before .before .before .before .before .before .before .before .before .before .before .before .before .if1 .left) (not-full at) (left .0) (left .1 .0)
+    let appended = c .before .before .before .before .before .before .before .before .before .before in
+    let uncovered = appended .before .before .before .before .before .before in
+    let pruned = uncovered .before .before .before .before .before in
+    let at = pruned .before in
+    let left = appended .append .ensures in
+    entry-added _ _ _ _ _ (room at) (here at) _ (told at) _ _ _ (pruned .prune .ensures) (uncovered .if1 .left) (not-full at) (left .0) (left .1 .0)
     (left .1 .1 .0) (left .1 .1 .1 .0) (left .1 .1 .1 .1 .0) (left .1 .1 .1 .1 .1)
 
 pub change-spec : {M : Type 1} → statement M

@@ -34,19 +34,23 @@ same-length-5 : tie.Need-same-length-5
 same-length-5 c = search needs
 
 returns : tie.Need-returns
-returns c = (
-  c .before .before .before .before .before .before .before .before .before .before .before .before .before .before .before .before .before .before .clear-numbers .ensures,
-  (
-    c .before .before .before .before .before .before .before .before .before .before .before .before .before .before .clear-numbers2 .ensures,
-    (
-      c .before .before .before .before .before .before .before .before .before .before .clear-numbers3 .ensures,
+returns c =
+    let procedures = c .before .before .before .before .before .before in
+    let events = procedures .before .before .before .before in
+    let links = events .before .before .before .before in
+    let heads = links .before .before .before .before in (
+      heads .clear-numbers .ensures,
       (
-        c .before .before .before .before .before .before .clear-numbers4 .ensures,
-        c .before .before .clear-sets .ensures,
+        links .clear-numbers2 .ensures,
+        (
+          events .clear-numbers3 .ensures,
+          (
+            procedures .clear-numbers4 .ensures,
+            c .before .before .clear-sets .ensures,
+          ),
+        ),
       ),
-    ),
-  ),
-)
+    )
 
 pub clear-spec : {M : Type 1} → statement M
 clear-spec =

@@ -16,7 +16,9 @@ says-parallel-requires : tie.Need-says-parallel-requires
 says-parallel-requires c κs = search needs
 
 returns-2 : tie.Need-returns-2
-returns-2 c = dropped-asked _ _ _ _ (c .before .ask .result) (c .before .before .before .within .ensures) (c .before .before .if1 .left) (c .before .ask .ensures .1 .0) (c .says-parallel .ensures)
+returns-2 c =
+    let asked = c .before .ask in
+    dropped-asked _ _ _ _ (asked .result) (c .before .before .before .within .ensures) (c .before .before .if1 .left) (asked .ensures .1 .0) (c .says-parallel .ensures)
 
 pub drops-spec : {M : Type 1} → statement M
 drops-spec =

@@ -59,7 +59,9 @@ loop-less : tie.Need-loop-less Inv-loop μ-loop
 loop-less c = omega (arith, inside (c .before .before .before .before), one-visit-more _ _ _ _ _ _ (c .before .weigh .ensures))
 
 loop-again : tie.Need-loop-again Inv-loop μ-loop
-loop-again c = walk-goes-on _ _ _ _ _ _ _ _ _ (c .before .before .before .before .before .loop .inv) (c .before .before .before .before .loop-test .taken) (c .before .weigh .ensures)
+loop-again c =
+    let turn = c .before .before .before .before in
+    walk-goes-on _ _ _ _ _ _ _ _ _ (turn .before .loop .inv) (turn .loop-test .taken) (c .before .weigh .ensures)
 
 returns : tie.Need-returns Inv-loop μ-loop
 returns c = walk-ends _ _ _ _ _ _ _ _ (c .before .loop .inv) (c .loop-test .left)

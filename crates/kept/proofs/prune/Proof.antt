@@ -47,7 +47,9 @@ inside c = prune-inside _ _ _ _ _ (asked (c .before) .0) _ _ _ _ _ _ (c .before 
 
 -- Which slots are dropped; and the step from a turn of the loop to the state after it.
 abbrev falls : tie.At-loop Inv-loop μ-loop → ℕ → Bool
-falls a = let given = start a .args in dropsBy (bagsIn (given .starts .now) (given .joins .now) (given .pairs)) (given .entry) (given .procedures .now) (given .sets .now)
+falls a =
+    let given = start a .args in
+    dropsBy (bagsIn (given .starts .now) (given .joins .now) (given .pairs)) (given .entry) (given .procedures .now) (given .sets .now)
 
 abbrev StepFrom : tie.At-loop Inv-loop μ-loop → List ℕ → List ℕ → ℕ → ℕ → ℕ → ℕ → Type 0
 StepFrom a =
@@ -66,20 +68,24 @@ turn-of-staying c = c .before .before .before .before .before
 dropped : (c : tie.After-slice-known6 Inv-loop μ-loop)
     → let now = turn-of-dropped c .before .loop in
     let left = c .before .before .before .before .relink .last in
-    StepFrom (turn-of-dropped c .before) (left .0) (set (left .1 .0) (now .at - 1) (now .freed)) (now .at) (now .last) (getD (now .links) (now .at - 1) 0) (now .left - 1)
+    StepFrom (turn-of-dropped c .before) (left .0) (set (left .1 .0) (now .at - 1) (now .freed)) (now .at) (now .last)
+    (getD (now .links) (now .at - 1) 0) (now .left - 1)
 dropped c =
     let turn = turn-of-dropped c in
     let given = asked (turn .before) in
-    let told = sym (c .before .before .before .before .before .before .before .before .drops .ensures) ∙ c .before .before .before .before .before .before .before .if1 .taken in
+    let taken = c .before .before .before .before .before .before .before in
+    let told = sym (taken .before .drops .ensures) ∙ taken .if1 .taken in
     let relinked = c .before .before .before .before .relink .ensures in
-    prune-drops _ _ _ _ _ (given .0) _ _ _ _ _ _ (turn .before .loop .inv) (given .1) (given .2) _ _ (turn .loop-test .taken) told (relinked .0) (relinked .1)
+    prune-drops _ _ _ _ _ (given .0) _ _ _ _ _ _ (turn .before .loop .inv) (given .1) (given .2) _ _ (turn .loop-test .taken) told (relinked .0)
+    (relinked .1)
 
 stayed : (c : tie.Else1 Inv-loop μ-loop)
     → let now = turn-of-staying c .before .loop in
     StepFrom (turn-of-staying c .before) (now .heads) (now .links) (now .freed) (now .at) (getD (now .links) (now .at - 1) 0) (now .left)
 stayed c =
     let turn = turn-of-staying c in
-    prune-stays _ _ _ _ _ (asked (turn .before) .0) _ _ _ _ _ _ (turn .before .loop .inv) (turn .loop-test .taken) (sym (c .before .drops .ensures) ∙ c .if1 .left)
+    prune-stays _ _ _ _ _ (asked (turn .before) .0) _ _ _ _ _ _ (turn .before .loop .inv) (turn .loop-test .taken)
+    (sym (c .before .drops .ensures) ∙ c .if1 .left)
 
 sub-slot : tie.Need-sub-slot Inv-loop μ-loop
 sub-slot c = omega (arith, inside c)
@@ -109,7 +115,9 @@ drops-requires : tie.Need-drops-requires Inv-loop μ-loop
 drops-requires c κs = search needs
 
 relink-requires : tie.Need-relink-requires Inv-loop μ-loop
-relink-requires c κs = (omega (arith, asked (c .before .before .before .before .before .before .before .before), fits (c .before .before .before .before .before .before .before .before)), omega (arith, inside (c .before .before .before .before .before .before .before), fits (c .before .before .before .before .before .before .before .before)))
+relink-requires c κs =
+    let turn = c .before .before .before .before .before .before .before in
+    (omega (arith, asked (turn .before), fits (turn .before)), omega (arith, inside turn, fits (turn .before)))
 
 mul-links : tie.Need-mul-links Inv-loop μ-loop
 mul-links c = omega (arith, inside (turn-of-dropped c))

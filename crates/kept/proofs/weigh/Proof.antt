@@ -20,7 +20,8 @@ with-requires c κs = search needs
 
 returns : tie.Need-returns
 returns c =
-    weighed-unasked _ _ _ _ _ _ (c .before .before .before .before .before .apart .ensures) (c .before .before .before .before .within .ensures) (c .before .before .before .within2 .ensures) (c .before .before .if1 .taken)
+    let looked = c .before .before .before in
+    weighed-unasked _ _ _ _ _ _ (looked .before .before .apart .ensures) (looked .before .within .ensures) (looked .within2 .ensures) (c .before .before .if1 .taken)
     (c .before .in-some-bag .ensures .1 _ _ (search needs)) (c .with .ensures)
 
 ask-requires : tie.Need-ask-requires
@@ -37,8 +38,10 @@ with-requires-2 c κs = search needs
 
 returns-2 : tie.Need-returns-2
 returns-2 c =
-    weighed-asked _ _ _ _ _ _ (c .before .before .before .ask .result) (c .before .before .before .before .before .before .before .apart .ensures) (c .before .before .before .before .before .before .within .ensures) (c .before .before .before .before .before .within2 .ensures)
-    (c .before .before .before .ask .ensures .1 .0) (c .before .before .before .ask .ensures .1 .1) (c .before .before .says-parallel .ensures) (c .before .says-no-bag .ensures) (c .with2 .ensures)
+    let looked = c .before .before .before .before .before in
+    let asked = c .before .before .before .ask in
+    weighed-asked _ _ _ _ _ _ (asked .result) (looked .before .before .apart .ensures) (looked .before .within .ensures) (looked .within2 .ensures)
+    (asked .ensures .1 .0) (asked .ensures .1 .1) (c .before .before .says-parallel .ensures) (c .before .says-no-bag .ensures) (c .with2 .ensures)
 
 pub weigh-spec : {M : Type 1} → statement M
 weigh-spec =
