@@ -3,7 +3,7 @@ use Prim.Native.Nat.{ℕ, zero, suc, _-_}
 use mathlib.Core.Path.{_≡_, refl, ap}
 use mathlib.Core.List.{List}
 use native.Mathlib.Omega.{arith}
-use lib.ListN.{getD, set}
+use lib.ListN.{set}
 use Rattle.kept.specs.declared.Race.the-variants.{With}
 use Rattle.kept.specs.Pieces.{entryIn}
 use Rattle.kept.specs.Parts.{raceAt, headsLinked, linksLinked}
