@@ -13,14 +13,14 @@ use Rattle.bags.specs.Bags.{Bags}
 use Rattle.kept.specs.declared.Entry.{Entry}
 use Rattle.kept.specs.declared.Slots.{Slots}
 use Rattle.kept.specs.declared.Seen.{Seen}
-use Rattle.kept.specs.declared.Race.{Race}
+use Rattle.kept.specs.declared.Named.{Named}
 use Rattle.kept.specs.declared.Accessed.the-variants.{Done, InNoBag, Full}
 use Rattle.kept.specs.Lists.{those}
 use Rattle.kept.specs.Rules.{dropped, left, added, after, changedAt, inAll}
 use Rattle.kept.specs.Pieces.{Pieces, pieces, pieceSize, slotsOf, slotsFreed, entryAt, listsIn, Chain, LaidOut, Room}
 use Rattle.kept.specs.Access.{parallelBy, accessed, placeAt, freeing, nextSlot, freedThen, usedThen, linkTo}
-use Rattle.kept.specs.Access.{drops, isLeftOut, slotsLeft, pool, slotsAfter, Accepted}
-use Rattle.kept.specs.Parts.{isFull, raceAt, headsLinked, linksLinked, dropsBy, howMany, Pruned, slotFor, slotsThen}
+use Rattle.kept.specs.Access.{drops, isOmitted, slotsLeft, pool, slotsAfter, Accepted}
+use Rattle.kept.specs.Parts.{isFull, namedAt, headsLinked, linksLinked, dropsBy, howMany, Pruned, slotFor, slotsThen}
 use Rattle.kept.proofs.Lists.{either-way}
 use Rattle.kept.proofs.Sums.{sum-agree, sum-changed}
 use Rattle.kept.proofs.Chains.{lastOf, chain-link, linked-heads-length, linked-length}
@@ -54,9 +54,9 @@ freed-more test [] freed = omega arith
 freed-more test (s ∷ ss) freed =
     either-way (test s) (λ q. rw q (omega (arith, freed-more test ss (s ∷ freed)))) (λ q. rw q (freed-more test ss freed))
 
--- Full, by numbers: t entries would be kept, k slots are freed, d dropped, u used, and the entry is covered or not.
-full-by-numbers : (covered : Bool) (d f k u t : ℕ) → u ≤ pieceSize → t + k + d ≡ u + cond covered 0 1 → eqb f 0 ≡ eqb k 0
-    → (not covered && eqb d 0 && eqb f 0 && eqb u pieceSize) ≡ ltb pieceSize t
+-- Full, by numbers: t entries would be kept, k slots are freed, d dropped, u used, and the entry is left out or not.
+full-by-numbers : (omitted : Bool) (d f k u t : ℕ) → u ≤ pieceSize → t + k + d ≡ u + cond omitted 0 1 → eqb f 0 ≡ eqb k 0
+    → (not omitted && eqb d 0 && eqb f 0 && eqb u pieceSize) ≡ ltb pieceSize t
 full-by-numbers true d f k u t fit sum same = sym (le-ltb pieceSize t (omega arith))
 full-by-numbers false zero f zero u t fit sum same =
     rw same (either-way (eqb u pieceSize) (λ q. rw q (sym (lt-ltb pieceSize t (omega (arith, eqb-true u pieceSize q)))))
@@ -82,21 +82,21 @@ module _ (bs : List Bags) (x : ℕ) (e : Entry) (p : Pieces) (slots : Slots) (ro
   -- ---- the answer
 
   -- How long the location's list is after the rules.
-  after-length : length (after (parallelBy bs) e (listsIn p x)) + seen .dropped ≡ length (listsIn p x) + cond (seen .covered) 0 1
+  after-length : length (after (parallelBy bs) e (listsIn p x)) + seen .dropped ≡ length (listsIn p x) + cond (seen .omitted) 0 1
   unfolding after left added listsIn
   after-length =
       let list = listsIn p x in
       let parted = those-and-others (dropped (parallelBy bs) e) list in
       let gone : length (those (dropped (parallelBy bs) e) list) ≡ seen .dropped =
       ap length (those-of-map (entryAt p) (dropped (parallelBy bs) e) (slotsOf (p .heads) (p .links) x))
-      ∙ length-map (those (drops bs x e p slots) (slotsOf (p .heads) (p .links) x)) (entryAt p) ∙ sym (told .dropped-told) in
-      let new : length (added (parallelBy bs) e list) ≡ cond (seen .covered) 0 1 =
-      either-way (seen .covered) (λ q. rw (q, sym (told .covered-told) ∙ q)) (λ q. rw (q, sym (told .covered-told) ∙ q)) in
+      ∙ length-map (those (drops bs e p) (slotsOf (p .heads) (p .links) x)) (entryAt p) ∙ sym (told .dropped-told) in
+      let new : length (added (parallelBy bs) e list) ≡ cond (seen .omitted) 0 1 =
+      either-way (seen .omitted) (λ q. rw (q, sym (told .omitted-told) ∙ q)) (λ q. rw (q, sym (told .omitted-told) ∙ q)) in
       omega (arith, parted, gone, new, length-append (left (parallelBy bs) e list) (added (parallelBy bs) e list))
 
   -- How many would be kept in all.
   all-after : inAll pieceSize (changedAt x (after (parallelBy bs) e) (listsIn p)) + length (slotsFreed (p .links) slots) + seen .dropped
-      ≡ slots .used + cond (seen .covered) 0 1
+      ≡ slots .used + cond (seen .omitted) 0 1
   unfolding inAll changedAt listsIn
   all-after =
       let before : ℕ → ℕ = λ y. length (listsIn p y) in
@@ -109,7 +109,7 @@ module _ (bs : List Bags) (x : ℕ) (e : Entry) (p : Pieces) (slots : Slots) (ro
 
   pub full-told : isFull seen slots ≡ ltb pieceSize (inAll pieceSize (changedAt x (after (parallelBy bs) e) (listsIn p)))
   full-told =
-      full-by-numbers (seen .covered) (seen .dropped) (slots .freed) (length (slotsFreed (p .links) slots)) (slots .used)
+      full-by-numbers (seen .omitted) (seen .dropped) (slots .freed) (length (slotsFreed (p .links) slots)) (slots .used)
       (inAll pieceSize (changedAt x (after (parallelBy bs) e) (listsIn p))) (room .laid-out .used-fit) all-after
       (ap (λ (n : ℕ). eqb n 0) (chain-link (p .links) (slots .freed) (slotsFreed (p .links) slots) (room .laid-out .freed-chain))
       ∙ link-to-none (slotsFreed (p .links) slots))
@@ -125,8 +125,8 @@ module _ (bs : List Bags) (x : ℕ) (e : Entry) (p : Pieces) (slots : Slots) (ro
   answer-full slots′ stray full = rw (sym (told .stray-told) ∙ stray, sym full-told ∙ full)
 
   -- Neither.
-  pub answer-done : (slots′ : Slots) (race : Race) → seen .stray ≡ false → isFull seen slots ≡ false
-      → race ≡ raceAt (p .events) (p .procedures) (p .sets) (seen .race) → Done slots′ (seen .visits) race ≡ accessed bs x e (listsIn p) slots′
+  pub answer-done : (slots′ : Slots) (race : Named) → seen .stray ≡ false → isFull seen slots ≡ false
+      → race ≡ namedAt (p .events) (p .procedures) (p .sets) (seen .race) → Done slots′ (seen .visits) race ≡ accessed bs x e (listsIn p) slots′
   unfolding accessed
   answer-done slots′ race stray full named =
       rw (sym (told .stray-told) ∙ stray, sym full-told ∙ full) (ap₂ (Done slots′) (told .visits-told) (named ∙ told .race-told))
@@ -136,7 +136,7 @@ module _ (bs : List Bags) (x : ℕ) (e : Entry) (p : Pieces) (slots : Slots) (ro
   module _ (heads₁ links₁ : List ℕ) (slots₁ : Slots)
       (pruned : Pruned (dropsBy bs e (p .procedures) (p .sets)) x (p .heads) (p .links) slots heads₁ links₁ slots₁) where
     abbrev lists₁ : ℕ → List ℕ
-    lists₁ = placeAt x (slotsLeft bs x e p slots) (slotsOf (p .heads) (p .links))
+    lists₁ = placeAt x (slotsLeft bs x e p) (slotsOf (p .heads) (p .links))
 
     abbrev freed₁ : List ℕ
     freed₁ = pool bs x e p slots
@@ -150,10 +150,10 @@ module _ (bs : List Bags) (x : ℕ) (e : Entry) (p : Pieces) (slots : Slots) (ro
     slots-told = ap₂ (λ (f u : ℕ). record { freed = f; used = u }) (chain-link links₁ (slots₁ .freed) freed₁ (laid₁ .freed-chain)) (pruned .same-used)
 
     -- The entry is left out.
-    pub left-out : seen .covered ≡ true
+    pub left-out : seen .omitted ≡ true
         → (slots₁ ≡ slotsAfter bs x e p slots) × Accepted bs x e p slots (pieces heads₁ links₁ (p .events) (p .procedures) (p .sets))
-    left-out covered =
-        let out : isLeftOut bs x e p slots ≡ true = sym (told .covered-told) ∙ covered in (
+    left-out omitted =
+        let out : isOmitted bs x e p ≡ true = sym (told .omitted-told) ∙ omitted in (
           rw out slots-told,
           record {
             laid-out = rw (out, sym slots-told) laid₁;
@@ -166,49 +166,49 @@ module _ (bs : List Bags) (x : ℕ) (e : Entry) (p : Pieces) (slots : Slots) (ro
         )
 
     -- The entry finds a slot, unless the room is full.
-    next-fits : seen .covered ≡ false → isFull seen slots ≡ false → nextSlot freed₁ (slots₁ .used) < pieceSize
+    next-fits : seen .omitted ≡ false → isFull seen slots ≡ false → nextSlot freed₁ (slots₁ .used) < pieceSize
     unfolding Chain
-    next-fits uncovered room-left = go freed₁ refl (laid₁ .freed-chain)
+    next-fits not-omitted room-left = go freed₁ refl (laid₁ .freed-chain)
       where
         go : (ss : List ℕ) → freed₁ ≡ ss → Chain links₁ (slots₁ .freed) ss → nextSlot ss (slots₁ .used) < pieceSize
         go (s ∷ ss) same chain = chain .1
         go [] same chain =
             let none-freed : length freed₁ ≡ 0 = ap length same in
-            let counted = freed-more (drops bs x e p slots) (slotsOf (p .heads) (p .links) x) (slotsFreed (p .links) slots) in
+            let counted = freed-more (drops bs e p) (slotsOf (p .heads) (p .links) x) (slotsFreed (p .links) slots) in
             let fits = ltb-false pieceSize (inAll pieceSize (changedAt x (after (parallelBy bs) e) (listsIn p))) (sym full-told ∙ room-left) in
             let fit : slots₁ .used < pieceSize =
-            omega (arith, none-freed, counted, fits, told .dropped-told, rw uncovered at all-after, pruned .same-used) in
+            omega (arith, none-freed, counted, fits, told .dropped-told, rw not-omitted at all-after, pruned .same-used) in
             fit
 
-    pub append-fits : seen .covered ≡ false → isFull seen slots ≡ false
+    pub append-fits : seen .omitted ≡ false → isFull seen slots ≡ false
         → (seen .last ≤ pieceSize) × (slots₁ .freed ≤ pieceSize) × (slots₁ .used ≤ pieceSize) × (slotFor slots₁ < pieceSize)
-    append-fits uncovered room-left =
-        let left-is = slotsLeft bs x e p slots in
+    append-fits not-omitted room-left =
+        let left-is = slotsLeft bs x e p in
         let whole = place-here x left-is (slotsOf (p .heads) (p .links)) ∙ sym (append-nil left-is) in
         let last-fit = laid-last heads₁ links₁ slots₁ lists₁ freed₁ laid₁ x left-is [] here whole in
         let freed-fit = laid-first heads₁ links₁ slots₁ lists₁ freed₁ laid₁ in (
           omega (arith, last-fit, told .last-told, laid₁ .used-fit),
           omega (arith, freed-fit, laid₁ .used-fit),
           laid₁ .used-fit,
-          rw (laid-next heads₁ links₁ slots₁ lists₁ freed₁ laid₁) (next-fits uncovered room-left),
+          rw (laid-next heads₁ links₁ slots₁ lists₁ freed₁ laid₁) (next-fits not-omitted room-left),
         )
 
     -- The entry is added.
-    pub entry-added : seen .covered ≡ false → isFull seen slots ≡ false
+    pub entry-added : seen .omitted ≡ false → isFull seen slots ≡ false
         → {r : Slots} {heads′ links′ events′ procedures′ sets′ : List ℕ} → r ≡ slotsThen links₁ slots₁
         → heads′ ≡ headsLinked (seen .last) x (slotFor slots₁ + 1) heads₁
         → links′ ≡ linksLinked (seen .last) (slotFor slots₁ + 1) (set links₁ (slotFor slots₁) 0)
         → events′ ≡ set (p .events) (slotFor slots₁) (e .event .0) → procedures′ ≡ set (p .procedures) (slotFor slots₁) (e .procedure .0)
         → sets′ ≡ set (p .sets) (slotFor slots₁) (e .locks)
         → (r ≡ slotsAfter bs x e p slots) × Accepted bs x e p slots (pieces heads′ links′ events′ procedures′ sets′)
-    entry-added uncovered room-left {r} {heads′} {links′} {events′} {procedures′} {sets′} r-is heads-is links-is events-is procedures-is sets-is =
+    entry-added not-omitted room-left {r} {heads′} {links′} {events′} {procedures′} {sets′} r-is heads-is links-is events-is procedures-is sets-is =
         let heads-fit : pieceSize ≤ length heads₁ = omega (arith, room .fits .heads-fit, pruned .heads-rest .same-length) in
         let links-fit : pieceSize ≤ length links₁ = omega (arith, room .fits .links-fit, pruned .links-rest .same-length) in
-        let out : isLeftOut bs x e p slots ≡ false = sym (told .covered-told) ∙ uncovered in
+        let out : isOmitted bs x e p ≡ false = sym (told .omitted-told) ∙ not-omitted in
         let next = nextSlot freed₁ (slots .used) in
-        let next-fit = next-fits uncovered room-left in
+        let next-fit = next-fits not-omitted room-left in
         let next-is : slotFor slots₁ ≡ next = laid-next heads₁ links₁ slots₁ lists₁ freed₁ laid₁ ∙ ap (nextSlot freed₁) (pruned .same-used) in
-        let left-is = slotsLeft bs x e p slots in
+        let left-is = slotsLeft bs x e p in
         let place = place-here x left-is (slotsOf (p .heads) (p .links)) in
         let twice = place-twice x left-is (left-is ++ next ∷ []) (slotsOf (p .heads) (p .links)) in
         let to-is : slotFor slots₁ + 1 ≡ suc next = omega (arith, next-is) in

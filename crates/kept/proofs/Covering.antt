@@ -19,7 +19,7 @@ use Rattle.locks.specs.Sets.{apart, within}
 use Rattle.locks.proofs.Laws.{within-refl, within-trans, within-apart}
 use Rattle.kept.specs.declared.Entry.{Entry}
 use Rattle.kept.specs.Lists.{any, In}
-use Rattle.kept.specs.Rules.{races, reported, named, dropped, left, leavesOut, added, after, changedAt}
+use Rattle.kept.specs.Rules.{races, reported, named, dropped, left, omits, added, after, changedAt}
 use Rattle.kept.specs.Theorem.{Run, AllDifferent, InEventOrder, kept, visited, setsUsed, Earlier, Race, parallelTo, Lawful, KeptTheorem}
 use Rattle.kept.proofs.Lists.{either-way, any-has, has-any, any-none, first-has, those-has, has-those, in-front, in-back, in-either}
 use Rattle.kept.proofs.Lists.{any-agree, first-agree, those-agree, map-has, Pairwise, pairwise-those, pairwise-one-more, first-related}
@@ -37,7 +37,7 @@ module _ (parallel : Entry → Bool) (e : Entry) where
   Stayed list l = In l list × (dropped parallel e l ≡ false)
 
   abbrev New : List Entry → Entry → Type 0
-  New list l = (l ≡ e) × (any (leavesOut parallel e) list ≡ false)
+  New list l = (l ≡ e) × (any (omits parallel e) list ≡ false)
 
   -- Whoever is in the list after e has stayed or is new.
   after-has : (list : List Entry) (l : Entry) → In l (after parallel e list) → Stayed list l ⊎ New list l
@@ -51,7 +51,7 @@ module _ (parallel : Entry → Bool) (e : Entry) where
 
       new : In l (added parallel e list) → Stayed list l ⊎ New list l
       new f =
-          either-way (any (leavesOut parallel e) list) (λ q. absurd (rw q at f))
+          either-way (any (omits parallel e) list) (λ q. absurd (rw q at f))
           (λ q. ⊎-elim (λ (same : l ≡ e). inr (same, q)) (λ (z : ⊥). absurd z) (rw q at f))
 
   -- Who is not dropped stays, and e is there unless it is left out.
@@ -60,20 +60,20 @@ module _ (parallel : Entry → Bool) (e : Entry) where
   not-dropped-stays list l h q =
       in-front (left parallel e list) (added parallel e list) l (has-those (λ (k : Entry). not (dropped parallel e k)) list l h (ap not q))
 
-  new-is-there : (list : List Entry) → any (leavesOut parallel e) list ≡ false → In e (after parallel e list)
+  new-is-there : (list : List Entry) → any (omits parallel e) list ≡ false → In e (after parallel e list)
   unfolding after added In
   new-is-there list q = in-back (left parallel e list) (added parallel e list) e (rw q (inl refl))
 
   -- If all in a list are pairwise related, and those that stay to e where e is added, then so are all in the list after e.
   after-pairwise : (R : Entry → Entry → Type 0) (list : List Entry) → Pairwise R list
-      → ((l : Entry) → In l list → dropped parallel e l ≡ false → leavesOut parallel e l ≡ false → R l e) → Pairwise R (after parallel e list)
+      → ((l : Entry) → In l list → dropped parallel e l ≡ false → omits parallel e l ≡ false → R l e) → Pairwise R (after parallel e list)
   unfolding after left added
   after-pairwise R list p f =
       let stayed = pairwise-those R (λ (k : Entry). not (dropped parallel e k)) list p in
-      either-way (any (leavesOut parallel e) list) (λ q. rw (q, append-nil) stayed)
+      either-way (any (omits parallel e) list) (λ q. rw (q, append-nil) stayed)
       (λ q. rw q (pairwise-one-more R (left parallel e list) e stayed (λ l h.
       let found = those-has (λ (k : Entry). not (dropped parallel e k)) list l h in
-      f l (found .0) (not-true (dropped parallel e l) (found .1)) (any-none (leavesOut parallel e) list q l (found .0)))))
+      f l (found .0) (not-true (dropped parallel e l) (found .1)) (any-none (omits parallel e) list q l (found .0)))))
 
   -- A dropped entry precedes e, and its set contains all of the set of e; so an entry that is parallel is not dropped.
   dropped-means : (l : Entry) → dropped parallel e l ≡ true → (parallel l ≡ false) × (within (e .locks) (l .locks) ≡ true)
@@ -87,13 +87,13 @@ module _ (parallel : Entry → Bool) (e : Entry) where
   parallel-stays l q = rw q
 
   -- An entry that leaves e out is parallel with e, and its set lies within that of e.
-  leaves-out-means : (l : Entry) → leavesOut parallel e l ≡ true → (parallel l ≡ true) × (within (l .locks) (e .locks) ≡ true)
-  unfolding leavesOut
-  leaves-out-means l q = and-eq-true-iff (parallel l) (within (l .locks) (e .locks)) .0 q
+  omits-means : (l : Entry) → omits parallel e l ≡ true → (parallel l ≡ true) × (within (l .locks) (e .locks) ≡ true)
+  unfolding omits
+  omits-means l q = and-eq-true-iff (parallel l) (within (l .locks) (e .locks)) .0 q
 
   -- An entry with the lock set of e is dropped, if it precedes e, or leaves e out.
-  same-set-goes : (l : Entry) → dropped parallel e l ≡ false → leavesOut parallel e l ≡ false → l .locks ≡ e .locks → ⊥
-  unfolding dropped leavesOut
+  same-set-goes : (l : Entry) → dropped parallel e l ≡ false → omits parallel e l ≡ false → l .locks ≡ e .locks → ⊥
+  unfolding dropped omits
   same-set-goes l d o same =
       either-way (parallel l)
       (λ q. let gone : within (l .locks) (e .locks) ≡ false = rw q at o in true≢false (sym (within-refl (e .locks)) ∙ rw same at gone))
@@ -124,13 +124,13 @@ module _ (p q : Entry → Bool) (e : Entry) (list : List Entry) (agree : (l : En
 
   -- and the same is kept.
   pub after-agree : after p e list ≡ after q e list
-  unfolding after left dropped added leavesOut
+  unfolding after left dropped added omits
   after-agree =
       ap₂ (λ (stayed new : List Entry). stayed ++ new)
       (those-agree (λ (k : Entry). not (dropped p e k)) (λ (k : Entry). not (dropped q e k)) list
       (λ l h. ap (λ (b : Bool). not (not b && within (e .locks) (l .locks))) (agree l h)))
       (ap (λ (b : Bool). cond b [] (e ∷ []))
-      (any-agree (leavesOut p e) (leavesOut q e) list (λ l h. ap (λ (b : Bool). b && within (l .locks) (e .locks)) (agree l h))))
+      (any-agree (omits p e) (omits q e) list (λ l h. ap (λ (b : Bool). b && within (l .locks) (e .locks)) (agree l h))))
 
 -- ---- what is kept, event by event
 
@@ -183,7 +183,7 @@ module _ (run : Run) where
   -- What relates each entry that stays to the new one relates each entry kept to those after it.
   kept-pairwise : (R : Entry → Entry → Type 0)
       → ((k x : ℕ) (l : Entry) → run .accesses k ≡ true → In l (kept run k x) → dropped (run .parallel k) (run .entry k) l ≡ false
-      → leavesOut (run .parallel k) (run .entry k) l ≡ false → R l (run .entry k))
+      → omits (run .parallel k) (run .entry k) l ≡ false → R l (run .entry k))
       → (k x : ℕ) → Pairwise R (kept run k x)
   unfolding Pairwise
   kept-pairwise R f =
@@ -281,10 +281,10 @@ module _ (run : Run) where
         }
 
     -- An access that is left out is covered by the entry that leaves it out, by lemma 2.
-    leaving-out-covers : (i k x : ℕ) → Earlier run i k x → run .accesses k ≡ true → leavesOut (run .parallel k) (run .entry k) (run .entry i) ≡ true
+    leaving-out-covers : (i k x : ℕ) → Earlier run i k x → run .accesses k ≡ true → omits (run .parallel k) (run .entry k) (run .entry i) ≡ true
         → Covers i k (suc k)
     leaving-out-covers i k x h a q =
-        let both = leaves-out-means (run .parallel k) (run .entry k) (run .entry i) q in
+        let both = omits-means (run .parallel k) (run .entry k) (run .entry i) q in
         record {
           set-within = both .1;
           parallel-too = λ j o w. lawful .two-laws .lemma-2 i k j (h .an-access) a w (h .before) o (both .0);
@@ -295,17 +295,17 @@ module _ (run : Run) where
     new-covered k x a there =
         let p = run .parallel k in
         let e = run .entry k in
-        either-way (any (leavesOut p e) (kept run k x))
+        either-way (any (omits p e) (kept run k x))
         (λ q.
-        let found = any-has (leavesOut p e) (kept run k x) q in
+        let found = any-has (omits p e) (kept run k x) q in
         let was = kept-accesses k x (found .0) (found .1) in
         let i = was .0 in
         let is-kept : In (run .entry i) (kept run k x) = rw (was .2) at (found .1) in
-        let leaves : leavesOut p e (run .entry i) ≡ true = rw (was .2) at (found .2) in (
+        let leaves : omits p e (run .entry i) ≡ true = rw (was .2) at (found .2) in (
           i,
           earlier-still i k x (was .1),
           not-dropped-stays p e (kept run k x) (run .entry i) is-kept
-              (parallel-stays p e (run .entry i) (leaves-out-means p e (run .entry i) leaves .0)),
+              (parallel-stays p e (run .entry i) (omits-means p e (run .entry i) leaves .0)),
           leaving-out-covers i k x (was .1) a leaves,
         ))
         (λ q.

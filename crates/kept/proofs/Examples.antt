@@ -12,10 +12,10 @@ use Rattle.bags.specs.Parallel.{member}
 use Rattle.bags.specs.Bags.{Bags, inSBag, inPBag, inSomeBag}
 use Rattle.kept.specs.declared.Entry.{Entry}
 use Rattle.kept.specs.declared.Slots.{Slots}
-use Rattle.kept.specs.declared.Race.{Race as AccessRace}
+use Rattle.kept.specs.declared.Named.{Named}
 use Rattle.kept.specs.declared.Accessed.the-variants.{Done, InNoBag, Full}
 use Rattle.kept.specs.Lists.{any, first, those}
-use Rattle.kept.specs.Rules.{races, reported, named, dropped, left, leavesOut, added, after, changedAt}
+use Rattle.kept.specs.Rules.{races, reported, named, dropped, left, omits, added, after, changedAt}
 use Rattle.kept.specs.Theorem.{Run, Race, Lawful, kept, visited}
 use Rattle.kept.specs.Pieces.{pieces, slotsFrom, entryAt, cleared}
 use Rattle.kept.specs.Access.{parallelBy, codeOf, freeing, nextSlot, freedThen, usedThen}
@@ -49,7 +49,7 @@ pub dropped-entry-as-known :
     (kept dropped-entry 5 0 ≡ entryOf 2 2 0 ∷ [])
     × (kept dropped-entry 7 0 ≡ entryOf 5 1 0 ∷ [])
     × (named (dropped-entry .parallel 7) (dropped-entry .entry 7) (visited dropped-entry 7) ≡ some (entryOf 5 1 0))
-unfolding kept changedAt after left dropped added leavesOut named races any first those isIn every apart within
+unfolding kept changedAt after left dropped added omits named races any first those isIn every apart within
 dropped-entry-as-known = (refl, refl, refl)
 
 -- Yet event 2 races with event 7 as well: the entry named is the lowest-numbered of those kept, not of all accesses that race.
@@ -84,7 +84,7 @@ pub both-kept :
     ((set : ℕ) → visited (two-locks set) 2 ≡ entryOf 0 0 1 ∷ entryOf 1 1 2 ∷ [])
     × (named (two-locks 1 .parallel 2) (two-locks 1 .entry 2) (visited (two-locks 1) 2) ≡ some (entryOf 1 1 2))
     × (named (two-locks 2 .parallel 2) (two-locks 2 .entry 2) (visited (two-locks 2) 2) ≡ some (entryOf 0 0 1))
-unfolding kept changedAt after left dropped added leavesOut named races any first those isIn every apart within
+unfolding kept changedAt after left dropped added omits named races any first those isIn every apart within
 both-kept = (λ set. refl, refl, refl)
 
 -- So with only one of the two writers kept, whichever it is, event 2 would not be reported under that writer's lock, though it races with the other.
@@ -118,12 +118,12 @@ pub dropped-or-not :
     × (after (parallelBy mainRuns) (new 1) (entryOf 3 0 3 ∷ []) ≡ new 1 ∷ [])
     × (after (parallelBy mainRuns) (new 1) (entryOf 3 1 1 ∷ []) ≡ entryOf 3 1 1 ∷ [])
     × (after (parallelBy mainRuns) (new 1) (entryOf 3 1 3 ∷ []) ≡ entryOf 3 1 3 ∷ new 1 ∷ [])
-unfolding after left dropped added leavesOut any those isIn every within member inPBag
+unfolding after left dropped added omits any those isIn every within member inPBag
 dropped-or-not = (refl, refl, refl, refl)
 
 -- An entry that precedes, with a smaller set, neither goes nor leaves the new one out: both are kept, though both write.
 pub smaller-set-stays : after (parallelBy mainRuns) (new 1) (entryOf 3 0 0 ∷ []) ≡ entryOf 3 0 0 ∷ new 1 ∷ []
-unfolding after left dropped added leavesOut any those isIn every within member inPBag
+unfolding after left dropped added omits any those isIn every within member inPBag
 smaller-set-stays = refl
 
 -- Of two entries that race the first is named.
@@ -137,15 +137,15 @@ first-is-named = refl
 -- is to be dropped, so the last that stays is in slot 0, which the link 1 names.
 pub seen-of-two :
     seenOver mainRuns (new 1) (0 ∷ 0 ∷ []) (0 ∷ 1 ∷ []) (0 ∷ 1 ∷ []) nothingSeen
-    ≡ record { visits = 2; race = 0; covered = false; dropped = 1; stray = false; last = 1 }
-unfolding seenOver weighedEntry races dropped leavesOut isIn every apart within member inSBag inPBag inSomeBag
+    ≡ record { visits = 2; race = 0; omitted = false; dropped = 1; stray = false; last = 1 }
+unfolding seenOver weighedEntry races dropped omits isIn every apart within member inSBag inPBag inSomeBag
 seen-of-two = refl
 
 -- An entry of procedure 2 is in no bag, also where the sets share a lock and neither lies within the other.
 pub seen-in-no-bag :
     seenOver mainRuns (new 3) (2 ∷ []) (6 ∷ []) (0 ∷ []) nothingSeen
-    ≡ record { visits = 1; race = 0; covered = false; dropped = 0; stray = true; last = 1 }
-unfolding seenOver weighedEntry races dropped leavesOut isIn every apart within member inSBag inPBag inSomeBag
+    ≡ record { visits = 1; race = 0; omitted = false; dropped = 0; stray = true; last = 1 }
+unfolding seenOver weighedEntry races dropped omits isIn every apart within member inSBag inPBag inSomeBag
 seen-in-no-bag = refl
 
 -- ---- slots
@@ -157,13 +157,13 @@ pub dropped-slot-again :
 unfolding freeing
 dropped-slot-again = (refl, refl, refl, refl, refl, refl)
 
--- There is no slot exactly where 4,096 are used, none is freed, none is to be dropped and the entry is not covered.
+-- There is no slot exactly where 4,096 are used, none is freed, none is to be dropped and the entry is not left out.
 pub full-or-not :
     (isFull nothingSeen (record { freed = 0; used = 4096 }) ≡ true)
     × (isFull nothingSeen (record { freed = 0; used = 4095 }) ≡ false)
     × (isFull nothingSeen (record { freed = 3; used = 4096 }) ≡ false)
-    × (isFull (record { visits = 1; race = 0; covered = false; dropped = 1; stray = false; last = 0 }) (record { freed = 0; used = 4096 }) ≡ false)
-    × (isFull (record { visits = 1; race = 0; covered = true; dropped = 0; stray = false; last = 1 }) (record { freed = 0; used = 4096 }) ≡ false)
+    × (isFull (record { visits = 1; race = 0; omitted = false; dropped = 1; stray = false; last = 0 }) (record { freed = 0; used = 4096 }) ≡ false)
+    × (isFull (record { visits = 1; race = 0; omitted = true; dropped = 0; stray = false; last = 1 }) (record { freed = 0; used = 4096 }) ≡ false)
 full-or-not = (refl, refl, refl, refl, refl)
 
 -- Link 1 leads to slot 0, and from there the link 0 ends the list; a link to the slot itself would never end it.
@@ -181,5 +181,5 @@ unfolding cleared
 two-cleared = refl
 
 -- The codes.
-pub codes : (slots : Slots) (race : AccessRace) → (codeOf (Done slots 0 race) ≡ 0) × (codeOf InNoBag ≡ 12) × (codeOf Full ≡ 13)
+pub codes : (slots : Slots) (race : Named) → (codeOf (Done slots 0 race) ≡ 0) × (codeOf InNoBag ≡ 12) × (codeOf Full ≡ 13)
 codes slots race = (refl, refl, refl)

@@ -10,6 +10,7 @@ pub mod Pruning
 pub mod Telling
 pub mod Accepting
 pub mod Meaning
+pub mod Through
 pub mod Determined
 pub mod Laws
 pub mod NoTwoOutcomes

@@ -4,9 +4,9 @@ use mathlib.Core.Path.{_≡_, refl, ap}
 use mathlib.Core.List.{List}
 use native.Mathlib.Omega.{arith}
 use lib.ListN.{set}
-use Rattle.kept.specs.declared.Race.the-variants.{With}
+use Rattle.kept.specs.declared.Named.the-variants.{With}
 use Rattle.kept.specs.Pieces.{entryIn}
-use Rattle.kept.specs.Parts.{raceAt, headsLinked, linksLinked}
+use Rattle.kept.specs.Parts.{namedAt, headsLinked, linksLinked}
 
 -- The number below a successor.
 one-less : (s : ℕ) → suc s - 1 ≡ s
@@ -14,7 +14,7 @@ one-less s = omega arith
 
 -- A link that is not 0 names an entry.
 pub race-named : (events procedures sets : List ℕ) (at : ℕ) → (at ≡ 0 → ⊥)
-    → With (entryIn events procedures sets (at - 1)) ≡ raceAt events procedures sets at
+    → With (entryIn events procedures sets (at - 1)) ≡ namedAt events procedures sets at
 race-named events procedures sets zero ne = absurd (ne refl)
 race-named events procedures sets (suc s) ne = simp (one-less s)
 

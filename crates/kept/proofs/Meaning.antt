@@ -1,7 +1,7 @@
 -- What the layout means: the lists that the pieces hold. Cleared heads are a layout of empty lists. An access gives the same answer by any lists that
 -- agree with those held. After it the entries in the slots are as they were, but for the slot of the entry added, and that slot stands in the layout
 -- once, at the end of its own list; so the other lists are as they were, and that one is what the rules make of it. Assumes nothing.
-use Prim.Native.Nat.{ℕ, zero, suc, _≤_, _<_}
+use Prim.Native.Nat.{ℕ, zero, suc, _+_, _-_, _≤_, _<_}
 use mathlib.Core.Path.{_≡_, refl, sym, ap, ap₂, _∙_, subst}
 use mathlib.Core.Logic.{_≢_}
 use mathlib.Core.Bool.{Bool, true, false, cond, not}
@@ -10,20 +10,20 @@ use native.Mathlib.Decide.{ℕ-discrete}
 use native.Mathlib.Omega.{arith}
 use lib.Dec.{eqb, ltb}
 use lib.ListN.{length, getD, drop, replicate, length-append, length-drop, length-replicate, length-set, getD-replicate, List·getD-append}
-use lib.Seq.{getD-set-same, getD-set-other}
+use lib.Seq.{getD-set-same, getD-set-other, drop-set-lt, drop-drop}
 use borrow.Author.Tests.{eq-eqb, ne-eqb, le-ltb}
 use Rattle.bags.specs.Bags.{Bags}
 use Rattle.kept.specs.declared.Entry.{Entry}
 use Rattle.kept.specs.declared.Slots.{Slots}
-use Rattle.kept.specs.declared.Race.{Race}
+use Rattle.kept.specs.declared.Named.{Named}
 use Rattle.kept.specs.declared.Accessed.{Accessed}
 use Rattle.kept.specs.declared.Accessed.the-variants.{Done, InNoBag, Full}
 use Rattle.kept.specs.Lists.{any, sumBelow}
 use Rattle.kept.specs.Rules.{named, dropped, left, added, after, Lists, changedAt, inAll}
-use Rattle.kept.specs.Pieces.{Pieces, pieceSize, slotsOf, entryAt, listsIn, Chain, timesIn, LaidOut, Room, noneUsed, cleared}
-use Rattle.kept.specs.Access.{parallelBy, inNoBag, raceWith, codeOf, accessed, placeAt, nextSlot}
-use Rattle.kept.specs.Access.{isLeftOut, slotsLeft, pool, slotsHere, freedAfter, slotsAfter, stored, Accepted, AfterAccess}
-use Rattle.kept.specs.Holds.{Holds, HoldsEmpty, HoldsAfter, HoldsAccess, CodeTold, DoneTold}
+use Rattle.kept.specs.Pieces.{Pieces, pieces, pieceSize, slotsOf, entryAt, listsIn, Chain, timesIn, LaidOut, Fits, Room, RestKept, noneUsed, cleared}
+use Rattle.kept.specs.Access.{parallelBy, inNoBag, nobodyOr, codeOf, accessCode, accessed, placeAt, nextSlot}
+use Rattle.kept.specs.Access.{isOmitted, slotsLeft, pool, slotsHere, freedAfter, slotsAfter, stored, Accepted, AfterAccess}
+use Rattle.kept.specs.Holds.{Holds, RestsKept}
 use Rattle.kept.proofs.Lists.{either-way}
 use Rattle.kept.proofs.Sums.{sum-agree}
 use Rattle.kept.proofs.Chains.{times-append, times-self}
@@ -31,6 +31,11 @@ use Rattle.kept.proofs.Laid.{place-here, place-elsewhere, stands-once, 
 use Rattle.kept.proofs.Accepting.{those-of-map}
 
 -- ---- empty lists
+
+-- Once the heads are cleared they hold empty lists, whatever the other pieces hold.
+abbrev HoldsEmpty : Type 0
+HoldsEmpty =
+    (p : Pieces) → Fits p → Holds (λ y. []) (pieces (cleared pieceSize (p .heads)) (p .links) (p .events) (p .procedures) (p .sets)) noneUsed
 
 -- Nothings add up to nothing.
 sum-of-nothings : (n : ℕ) → sumBelow n (λ y. 0) ≡ 0
@@ -83,6 +88,18 @@ holds-empty p fits =
 
 -- ---- the answer
 
+-- Its code is 12, 13 or 0, by 01's rules in that order; and where nothing is refused it gives the length of the list and the entry
+-- named.
+abbrev CodeTold : Type 0
+CodeTold =
+    (bs : List Bags) (x : ℕ) (e : Entry) (lists : Lists) (slots′ : Slots) → codeOf (accessed bs x e lists slots′) ≡ accessCode bs x e lists
+
+abbrev DoneTold : Type 0
+DoneTold =
+    (bs : List Bags) (x : ℕ) (e : Entry) (lists : Lists) (slots′ slots″ : Slots) (visits : ℕ) (race : Named)
+    → Done slots″ visits race ≡ accessed bs x e lists slots′
+    → (slots″ ≡ slots′) × (visits ≡ length (lists x)) × (race ≡ nobodyOr (named (parallelBy bs) e (lists x)))
+
 -- The code of the answer, by the two tests.
 pub code-told : CodeTold
 unfolding accessed
@@ -91,27 +108,27 @@ code-told bs x e lists slots′ =
     either-way (any (inNoBag bs) (lists x)) (λ q. rw q) (λ q. rw q (either-way full (λ r. rw r) (λ r. rw r)))
 
 -- The parts of what is given where nothing is refused, and else some others.
-abbrev partsOr : Slots × ℕ × Race → Accessed → Slots × ℕ × Race
+abbrev partsOr : Slots × ℕ × Named → Accessed → Slots × ℕ × Named
 partsOr others (Done slots visits race) = (slots, visits, race)
 partsOr others InNoBag = others
 partsOr others Full = others
 
 -- No refusal is the same as nothing refused, and where nothing is refused, the same is given only if each part is the same.
-same-parts : (stray full : Bool) (slots slots′ : Slots) (visits visits′ : ℕ) (race race′ : Race)
+same-parts : (stray full : Bool) (slots slots′ : Slots) (visits visits′ : ℕ) (race race′ : Named)
     → Done slots visits race ≡ cond stray InNoBag (cond full Full (Done slots′ visits′ race′))
     → (slots ≡ slots′) × (visits ≡ visits′) × (race ≡ race′)
 same-parts true full slots slots′ visits visits′ race race′ same = absurd (let code : 0 ≡ 12 = ap codeOf same in omega arith)
 same-parts false true slots slots′ visits visits′ race race′ same = absurd (let code : 0 ≡ 13 = ap codeOf same in omega arith)
 same-parts false false slots slots′ visits visits′ race race′ same =
     let parts = ap (partsOr (slots, visits, race)) same in
-    (ap (λ (t : Slots × ℕ × Race). t .0) parts, ap (λ (t : Slots × ℕ × Race). t .1) parts, ap (λ (t : Slots × ℕ × Race). t .2) parts)
+    (ap (λ (t : Slots × ℕ × Named). t .0) parts, ap (λ (t : Slots × ℕ × Named). t .1) parts, ap (λ (t : Slots × ℕ × Named). t .2) parts)
 
 -- What is given where nothing is refused.
 pub done-told : DoneTold
 unfolding accessed
 done-told bs x e lists slots′ slots″ visits race same =
     same-parts (any (inNoBag bs) (lists x)) (ltb pieceSize (inAll pieceSize (changedAt x (after (parallelBy bs) e) lists))) slots″ slots′ visits
-    (length (lists x)) race (raceWith (named (parallelBy bs) e (lists x))) same
+    (length (lists x)) race (nobodyOr (named (parallelBy bs) e (lists x))) same
 
 -- Where lists agree, so do the changed ones.
 changed-agree : (x y : ℕ) (change : List Entry → List Entry) (lists lists′ : Lists) → lists y ≡ lists′ y
@@ -153,7 +170,7 @@ module _ (bs : List Bags) (x : ℕ) (e : Entry) (p : Pieces) (slots : Slots) (ro
 
   -- A piece with a number stored is as long as before.
   stored-length : (number : ℕ) (piece : List ℕ) → length (stored bs x e p slots number piece) ≡ length piece
-  stored-length number piece = either-way (isLeftOut bs x e p slots) (λ out. rw out) (λ out. rw out (length-set piece next number))
+  stored-length number piece = either-way (isOmitted bs x e p) (λ out. rw out) (λ out. rw out (length-set piece next number))
 
   -- The pieces are as long as before, and hold lists.
   room-after : Room p′ (slotsAfter bs x e p slots)
@@ -170,11 +187,11 @@ module _ (bs : List Bags) (x : ℕ) (e : Entry) (p : Pieces) (slots : Slots) (ro
   }
 
   -- The entries in the slots left are the entries left.
-  left-entries : map (entryAt p) (slotsLeft bs x e p slots) ≡ left (parallelBy bs) e (listsIn p x)
+  left-entries : map (entryAt p) (slotsLeft bs x e p) ≡ left (parallelBy bs) e (listsIn p x)
   unfolding left listsIn
   left-entries = sym (those-of-map (entryAt p) (λ (k : Entry). not (dropped (parallelBy bs) e k)) (slotsBefore x))
 
-  module _ (out : isLeftOut bs x e p slots ≡ true) where
+  module _ (out : isOmitted bs x e p ≡ true) where
     -- Where the entry is left out, every entry is as it was,
     entries-same : (s : ℕ) → entryAt p′ s ≡ entryAt p s
     entries-same s = rw (accepted .events, accepted .procedures, accepted .sets, out)
@@ -183,20 +200,20 @@ module _ (bs : List Bags) (x : ℕ) (e : Entry) (p : Pieces) (slots : Slots) (ro
     out-here : map (entryAt p′) (slotsHere bs x e p slots) ≡ after (parallelBy bs) e (listsIn p x)
     unfolding after added
     out-here =
-        rw out (map-agree (entryAt p′) (entryAt p) (slotsLeft bs x e p slots) (λ s stands. entries-same s) ∙ left-entries
+        rw out (map-agree (entryAt p′) (entryAt p) (slotsLeft bs x e p) (λ s stands. entries-same s) ∙ left-entries
         ∙ sym (append-nil (left (parallelBy bs) e (listsIn p x))))
 
-  module _ (out : isLeftOut bs x e p slots ≡ false) where
+  module _ (out : isOmitted bs x e p ≡ false) where
     -- Where it is added, its slot stands once more in the location's list than in what is left of that,
-    next-once-more : timesIn next (slotsNow x) ≡ suc (timesIn next (slotsLeft bs x e p slots))
+    next-once-more : timesIn next (slotsNow x) ≡ suc (timesIn next (slotsLeft bs x e p))
     unfolding timesIn
     next-once-more =
-        let both = times-append next (slotsLeft bs x e p slots) (next ∷ []) in
+        let both = times-append next (slotsLeft bs x e p) (next ∷ []) in
         let self = times-self next [] in
         rw (place-here x (slotsHere bs x e p slots) slotsBefore, out) (omega (arith, both, self))
 
     -- so it was not in there,
-    next-not-left : timesIn next (slotsLeft bs x e p slots) ≡ 0
+    next-not-left : timesIn next (slotsLeft bs x e p) ≡ 0
     next-not-left =
         let once =
         stands-once (p′ .heads) (p′ .links) (slotsAfter bs x e p slots) slotsNow (freedAfter bs x e p slots) (accepted .laid-out) x next here in
@@ -247,8 +264,8 @@ module _ (bs : List Bags) (x : ℕ) (e : Entry) (p : Pieces) (slots : Slots) (ro
     added-here : map (entryAt p′) (slotsHere bs x e p slots) ≡ after (parallelBy bs) e (listsIn p x)
     unfolding after added
     added-here =
-        rw out (map-append (entryAt p′) (slotsLeft bs x e p slots) (next ∷ [])
-        ∙ ap₂ (λ (list : List Entry) (k : Entry). list ++ k ∷ []) (entries-kept (slotsLeft bs x e p slots) next-not-left ∙ left-entries) entry-new)
+        rw out (map-append (entryAt p′) (slotsLeft bs x e p) (next ∷ [])
+        ∙ ap₂ (λ (list : List Entry) (k : Entry). list ++ k ∷ []) (entries-kept (slotsLeft bs x e p) next-not-left ∙ left-entries) entry-new)
 
   -- The lists after the access are what the rules make of the lists before.
   held-after : (y : ℕ) → y < pieceSize → listsIn p′ y ≡ changedAt x (after (parallelBy bs) e) (listsIn p) y
@@ -259,14 +276,72 @@ module _ (bs : List Bags) (x : ℕ) (e : Entry) (p : Pieces) (slots : Slots) (ro
       elim (ℕ-discrete y x) [
         | yes same ↦
             let place = place-here x (slotsHere bs x e p slots) slotsBefore in
-            rw (found, same, place, eq-eqb x x refl) (either-way (isLeftOut bs x e p slots) out-here added-here)
+            rw (found, same, place, eq-eqb x x refl) (either-way (isOmitted bs x e p) out-here added-here)
         | no different ↦
             let place = place-elsewhere x y (slotsHere bs x e p slots) slotsBefore different in
             let slots-there = slotsBefore y in
-            rw (found, place, ne-eqb y x different) (either-way (isLeftOut bs x e p slots)
+            rw (found, place, ne-eqb y x different) (either-way (isOmitted bs x e p)
             (λ out. map-agree (entryAt p′) (entryAt p) slots-there (λ s stands. entries-same out s))
             (λ out. entries-kept out slots-there (next-not-elsewhere out y h different)))
       ]
+
+  -- Past 4,096 every piece is as it was.
+  stored-rest : (number : ℕ) (piece : List ℕ) → RestKept pieceSize piece (stored bs x e p slots number piece)
+  stored-rest number piece = record {
+    same-length = stored-length number piece;
+    same-rest =
+        either-way (isOmitted bs x e p) (λ out. rw out) (λ out. rw out (drop-set-lt pieceSize piece next number (next-fits out)));
+  }
+
+  links-rest-all : drop pieceSize (p′ .links) ≡ drop pieceSize (p .links)
+  links-rest-all =
+      let used = slotsAfter bs x e p slots .used in
+      let whole : used + (pieceSize - used) ≡ pieceSize = omega (arith, accepted .laid-out .used-fit) in
+      rw whole at
+      (sym (drop-drop (pieceSize - used) used (p′ .links)) ∙ ap (drop (pieceSize - used)) (accepted .links-rest .same-rest)
+      ∙ drop-drop (pieceSize - used) used (p .links))
+
+  rests-after : RestsKept p p′
+  rests-after = record {
+    heads = accepted .heads-rest;
+    links = record { same-length = accepted .links-rest .same-length; same-rest = links-rest-all };
+    events = rw (accepted .events) (stored-rest (e .event .0) (p .events));
+    procedures = rw (accepted .procedures) (stored-rest (e .procedure .0) (p .procedures));
+    sets = rw (accepted .sets) (stored-rest (e .locks) (p .sets));
+  }
+
+-- A piece keeps its own rest.
+same-rest-kept : (n : ℕ) (piece : List ℕ) → RestKept n piece piece
+same-rest-kept n piece = record { same-length = refl; same-rest = refl }
+
+same-rests : (p : Pieces) → RestsKept p p
+same-rests p = record {
+  heads = same-rest-kept pieceSize (p .heads);
+  links = same-rest-kept pieceSize (p .links);
+  events = same-rest-kept pieceSize (p .events);
+  procedures = same-rest-kept pieceSize (p .procedures);
+  sets = same-rest-kept pieceSize (p .sets);
+}
+
+-- Whatever the answer, what lies past 4,096 is kept.
+pub rests-kept : (bs : List Bags) (x : ℕ) (e : Entry) (p : Pieces) (slots : Slots) (p′ : Pieces) (r : Accessed) → x < pieceSize → Room p slots
+    → AfterAccess bs x e p slots p′ r → RestsKept p p′
+rests-kept bs x e p slots p′ (Done slots′ visits race) here room accepted = rests-after bs x e p slots room here p′ accepted
+rests-kept bs x e p slots p′ InNoBag here room same = rw same (same-rests p)
+rests-kept bs x e p slots p′ Full here room same = rw same (same-rests p)
+
+-- After an access they hold what the rules make of the lists; after a refusal, the same lists.
+abbrev HoldsAfter : List Bags → ℕ → Entry → Lists → Pieces → Slots → Accessed → Type 0
+HoldsAfter bs x e lists p′ slots (Done slots′ visits race) = Holds (changedAt x (after (parallelBy bs) e) lists) p′ slots′
+HoldsAfter bs x e lists p′ slots InNoBag = Holds lists p′ slots
+HoldsAfter bs x e lists p′ slots Full = Holds lists p′ slots
+
+-- So it does, by what `access` promises; and the lists held tell what it gives.
+abbrev HoldsAccess : Type 0
+HoldsAccess =
+    (bs : List Bags) (x : ℕ) (e : Entry) (lists : Lists) (p : Pieces) (slots : Slots) (p′ : Pieces) (r : Accessed) → x < pieceSize → Holds lists p slots
+    → r ≡ accessed bs x e (listsIn p) (slotsAfter bs x e p slots) → AfterAccess bs x e p slots p′ r
+    → (r ≡ accessed bs x e lists (slotsAfter bs x e p slots)) × HoldsAfter bs x e lists p′ slots r
 
 -- After each answer the pieces hold the lists that they should.
 holds-after : (bs : List Bags) (x : ℕ) (e : Entry) (lists : Lists) (p : Pieces) (slots : Slots) (p′ : Pieces) (r : Accessed) → x < pieceSize

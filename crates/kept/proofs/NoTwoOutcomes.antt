@@ -32,5 +32,5 @@ no-two-outcomes = record {
   clear-numbers = λ κ a x y s s′ p q. p ∙ sym q;
   clear-sets = λ κ a x y s s′ p q. p ∙ sym q;
   access = λ κ a x y s s′ p q. p .0 ∙ sym (q .0);
-  access-pieces = λ κ a x y s s′ p q. access-determines _ _ _ _ _ _ _ x (p .1) (subst (AfterAccess _ _ _ _ _ _) (q .0 ∙ sym (p .0)) (q .1));
+  access-pieces = λ κ a x y s s′ p q. access-determines _ _ _ _ _ _ _ x (p .1 .1) (subst (AfterAccess _ _ _ _ _ _) (q .0 ∙ sym (p .0)) (q .1 .1));
 }

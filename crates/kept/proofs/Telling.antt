@@ -12,10 +12,10 @@ use Rattle.kept.specs.declared.Entry.{Entry}
 use Rattle.kept.specs.declared.Seen.{Seen}
 use Rattle.kept.specs.declared.Slots.{Slots}
 use Rattle.kept.specs.Lists.{any, first, those}
-use Rattle.kept.specs.Rules.{races, named, dropped, leavesOut}
+use Rattle.kept.specs.Rules.{races, named, dropped, omits}
 use Rattle.kept.specs.Pieces.{Pieces, pieceSize, slotsOf, slotsFreed, entryAt, listsIn, Chain, Room}
-use Rattle.kept.specs.Access.{parallelBy, inNoBag, raceWith, drops, isLeftOut, slotsLeft}
-use Rattle.kept.specs.Parts.{entryOf, nothingSeen, weighedEntry, seenOver, Walkable, raceAt, dropsBy, howMany}
+use Rattle.kept.specs.Access.{parallelBy, inNoBag, nobodyOr, drops, isOmitted, slotsLeft}
+use Rattle.kept.specs.Parts.{entryOf, nothingSeen, weighedEntry, seenOver, Walkable, namedAt, dropsBy, howMany}
 use Rattle.kept.proofs.Lists.{either-way}
 use Rattle.kept.proofs.Chains.{lastOf}
 use Rattle.kept.proofs.Laid.{laid-few}
@@ -102,12 +102,12 @@ module _ (bs : List Bags) (e : Entry) (procedures sets : List ℕ) where
   stray-seen [] seen = sym (or-false (seen .stray))
   stray-seen (s ∷ ss) seen = stray-seen ss (next s seen) ∙ or-of-more (seen .stray) (inNoBag bs (at s)) (any (λ s. inNoBag bs (at s)) ss)
 
-  covered-seen : (ss : List ℕ) (seen : Seen) → seenThen ss seen .covered ≡ (seen .covered || any (λ s. leavesOut (parallelBy bs) e (at s)) ss)
+  omitted-seen : (ss : List ℕ) (seen : Seen) → seenThen ss seen .omitted ≡ (seen .omitted || any (λ s. omits (parallelBy bs) e (at s)) ss)
   unfolding seenOver weighedEntry any
-  covered-seen [] seen = sym (or-false (seen .covered))
-  covered-seen (s ∷ ss) seen =
-      covered-seen ss (next s seen)
-      ∙ or-of-more (seen .covered) (leavesOut (parallelBy bs) e (at s)) (any (λ s. leavesOut (parallelBy bs) e (at s)) ss)
+  omitted-seen [] seen = sym (or-false (seen .omitted))
+  omitted-seen (s ∷ ss) seen =
+      omitted-seen ss (next s seen)
+      ∙ or-of-more (seen .omitted) (omits (parallelBy bs) e (at s)) (any (λ s. omits (parallelBy bs) e (at s)) ss)
 
   dropped-seen : (ss : List ℕ) (seen : Seen) → seenThen ss seen .dropped ≡ seen .dropped + howMany (dropsBy bs e procedures sets) ss
   unfolding seenOver weighedEntry those
@@ -135,7 +135,7 @@ zero-more n = omega arith
 
 -- The entry that the first link leads to is the first entry; and that link is small.
 race-found : (p : Pieces) (test : Entry → Bool) (ss : List ℕ)
-    → raceAt (p .events) (p .procedures) (p .sets) (linkOf (first (λ s. test (entryAt p s)) ss)) ≡ raceWith (first test (map (entryAt p) ss))
+    → namedAt (p .events) (p .procedures) (p .sets) (linkOf (first (λ s. test (entryAt p s)) ss)) ≡ nobodyOr (first test (map (entryAt p) ss))
 unfolding first linkOf
 race-found p test [] = refl
 race-found p test (s ∷ ss) = either-way (test (entryAt p s)) (λ q. rw q) (λ q. rw q (race-found p test ss))
@@ -151,15 +151,15 @@ module _ (bs : List Bags) (x : ℕ) (e : Entry) (p : Pieces) (slots : Slots) whe
   pub record Told (seen : Seen) : Type 0 where
     pub visits-told : seen .visits ≡ length (listsIn p x)
     pub stray-told : seen .stray ≡ any (inNoBag bs) (listsIn p x)
-    pub covered-told : seen .covered ≡ isLeftOut bs x e p slots
-    pub dropped-told : seen .dropped ≡ howMany (drops bs x e p slots) (slotsOf (p .heads) (p .links) x)
-    pub last-told : seen .last ≡ lastOf (slotsLeft bs x e p slots)
-    pub race-told : raceAt (p .events) (p .procedures) (p .sets) (seen .race) ≡ raceWith (named (parallelBy bs) e (listsIn p x))
+    pub omitted-told : seen .omitted ≡ isOmitted bs x e p
+    pub dropped-told : seen .dropped ≡ howMany (drops bs e p) (slotsOf (p .heads) (p .links) x)
+    pub last-told : seen .last ≡ lastOf (slotsLeft bs x e p)
+    pub race-told : namedAt (p .events) (p .procedures) (p .sets) (seen .race) ≡ nobodyOr (named (parallelBy bs) e (listsIn p x))
     pub race-fit : seen .race ≤ pieceSize
 
   pub seen-tells : (seen : Seen) → Walkable (p .heads) (p .links) x
       → seen ≡ seenOver bs e (p .procedures) (p .sets) (slotsOf (p .heads) (p .links) x) nothingSeen → Told seen
-  unfolding listsIn named dropped leavesOut races
+  unfolding listsIn named dropped omits races
   seen-tells seen walkable is =
       let ss = slotsOf (p .heads) (p .links) x in
       let procedures = p .procedures in
@@ -169,13 +169,13 @@ module _ (bs : List Bags) (x : ℕ) (e : Entry) (p : Pieces) (slots : Slots) whe
         visits-told =
             ap (λ (s : Seen). s .visits) is ∙ visits-seen bs e procedures sets ss nothingSeen ∙ zero-more (length ss) ∙ sym (length-map ss (entryAt p));
         stray-told = ap (λ (s : Seen). s .stray) is ∙ stray-seen bs e procedures sets ss nothingSeen ∙ sym (any-of-map (entryAt p) (inNoBag bs) ss);
-        covered-told =
-            ap (λ (s : Seen). s .covered) is ∙ covered-seen bs e procedures sets ss nothingSeen
-            ∙ sym (any-of-map (entryAt p) (leavesOut (parallelBy bs) e) ss);
+        omitted-told =
+            ap (λ (s : Seen). s .omitted) is ∙ omitted-seen bs e procedures sets ss nothingSeen
+            ∙ sym (any-of-map (entryAt p) (omits (parallelBy bs) e) ss);
         dropped-told =
-            ap (λ (s : Seen). s .dropped) is ∙ dropped-seen bs e procedures sets ss nothingSeen ∙ zero-more (howMany (drops bs x e p slots) ss);
-        last-told = ap (λ (s : Seen). s .last) is ∙ last-seen bs e procedures sets ss nothingSeen ∙ last-from-none (slotsLeft bs x e p slots);
-        race-told = ap (raceAt (p .events) procedures sets) race ∙ race-found p (races (parallelBy bs) e) ss;
+            ap (λ (s : Seen). s .dropped) is ∙ dropped-seen bs e procedures sets ss nothingSeen ∙ zero-more (howMany (drops bs e p) ss);
+        last-told = ap (λ (s : Seen). s .last) is ∙ last-seen bs e procedures sets ss nothingSeen ∙ last-from-none (slotsLeft bs x e p);
+        race-told = ap (namedAt (p .events) procedures sets) race ∙ race-found p (races (parallelBy bs) e) ss;
         race-fit = rw race (race-fits (p .links) (getD (p .heads) x 0) (λ s. races (parallelBy bs) e (entryAt p s)) ss (walkable .chain));
       }
 

@@ -14,7 +14,7 @@ use Rattle.bags.specs.Bags.{Bags, inPBag, inSomeBag}
 use Rattle.bags.specs.Ask.{saysParallel, codeOf}
 use Rattle.kept.specs.declared.Entry.{Entry}
 use Rattle.kept.specs.declared.Seen.{Seen}
-use Rattle.kept.specs.Rules.{races, dropped, leavesOut}
+use Rattle.kept.specs.Rules.{races, dropped, omits}
 use Rattle.kept.specs.Pieces.{pieceSize, Chain}
 use Rattle.kept.specs.Access.{parallelBy}
 use Rattle.kept.specs.Parts.{saysNoBag, entryOf, nothingSeen, weighed, weighedEntry, seenOver}
@@ -35,7 +35,7 @@ module _ (bs : List Bags) (e : Entry) (at procedure locks : ℕ) (seen : Seen) {
   pub weighed-unasked : {b : Bool} {r : Seen} → a ≡ apart locks (e .locks) → w ≡ within locks (e .locks) → c ≡ within (e .locks) locks
       → not ((a || w) || c) ≡ true → b ≡ inSomeBag procedure bs → r ≡ weighed at (not b) false false false seen
       → r ≡ weighedEntry bs e at (entryOf procedure locks) seen
-  unfolding weighedEntry races dropped leavesOut
+  unfolding weighedEntry races dropped omits
   weighed-unasked {b} {r} p q s t u v = v ∙ go a w c p q s t
     where
       go : (a w c : Bool) → a ≡ apart locks (e .locks) → w ≡ within locks (e .locks) → c ≡ within (e .locks) locks → not ((a || w) || c) ≡ true
@@ -50,7 +50,7 @@ module _ (bs : List Bags) (e : Entry) (at procedure locks : ℕ) (seen : Seen) {
       → c ≡ within (e .locks) locks → saysParallel answer ≡ inPBag procedure bs → _≡_ {A = ℕ} (codeOf answer) (cond (inSomeBag procedure bs) 0 12)
       → parallel ≡ saysParallel answer → stray ≡ saysNoBag answer
       → r ≡ weighed at stray (parallel && a) (not parallel && c) (parallel && w) seen → r ≡ weighedEntry bs e at (entryOf procedure locks) seen
-  unfolding weighedEntry races dropped leavesOut
+  unfolding weighedEntry races dropped omits
   weighed-asked answer p q s told code par str v = v ∙ simp (par ∙ told, str ∙ no-bag-told answer (inSomeBag procedure bs) code, p, q, s)
 
 -- An entry whose set does not contain the set of e is not dropped; of others the bags' answer tells.

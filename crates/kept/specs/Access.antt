@@ -1,7 +1,7 @@
 -- What an access gives, and what it leaves in the pieces.
 use Prim.Native.Nat.{ℕ, suc, _+_}
 use mathlib.Core.Path.{_≡_}
-use mathlib.Core.Bool.{Bool, cond, not}
+use mathlib.Core.Bool.{Bool, true, false, cond, not}
 use mathlib.Core.List.{List, [], _∷_, _++_}
 use mathlib.Core.Option.{Option, none, some}
 use lib.Dec.{eqb, ltb}
@@ -9,12 +9,12 @@ use lib.ListN.{length, set}
 use Rattle.bags.specs.Bags.{Bags, inPBag, inSomeBag}
 use Rattle.kept.specs.declared.Entry.{Entry}
 use Rattle.kept.specs.declared.Slots.{Slots}
-use Rattle.kept.specs.declared.Race.{Race}
-use Rattle.kept.specs.declared.Race.the-variants.{Nobody, With}
+use Rattle.kept.specs.declared.Named.{Named}
+use Rattle.kept.specs.declared.Named.the-variants.{Nobody, With}
 use Rattle.kept.specs.declared.Accessed.{Accessed}
 use Rattle.kept.specs.declared.Accessed.the-variants.{Done, InNoBag, Full}
 use Rattle.kept.specs.Lists.{any, those}
-use Rattle.kept.specs.Rules.{named, dropped, leavesOut, after, Lists, changedAt, inAll}
+use Rattle.kept.specs.Rules.{named, dropped, omits, after, Lists, changedAt, inAll}
 use Rattle.kept.specs.Pieces.{Pieces, pieceSize, slotsOf, slotsFreed, entryAt, listsIn, LaidOut, RestKept}
 
 -- The bags' yes or no, of an entry; and whether its procedure is in no bag.
@@ -24,10 +24,14 @@ parallelBy bs k = inPBag (k .procedure .0) bs
 abbrev pub inNoBag : List Bags → Entry → Bool
 inNoBag bs k = not (inSomeBag (k .procedure .0) bs)
 
--- The entry that is named, if one is.
-abbrev pub raceWith : Option Entry → Race
-raceWith none = Nobody
-raceWith (some k) = With k
+-- The entry that is named, if one is; and whether one is.
+abbrev pub nobodyOr : Option Entry → Named
+nobodyOr none = Nobody
+nobodyOr (some k) = With k
+
+abbrev pub isNamed : Named → Bool
+isNamed Nobody = false
+isNamed (With k) = true
 
 -- The code of each answer, 0 where nothing is refused.
 abbrev pub codeOf : Accessed → ℕ
@@ -35,14 +39,18 @@ codeOf (Done slots visits race) = 0
 codeOf InNoBag = 12
 codeOf Full = 13
 
--- An access e to location x, the bags and the lists being as they stand before it: refused if an entry kept for the location has its procedure in no
--- bag; then if after the rules more than 4,096 entries would be kept in all; else it gives the length of the list, the entry named, and which slots
--- hold no entry afterwards.
+-- The code of an access e to location x, the bags and the lists being as they stand before it: 12 if an entry kept for the location has its procedure
+-- in no bag; then 13 if after the rules more than 4,096 entries would be kept in all.
+abbrev pub accessCode : List Bags → ℕ → Entry → Lists → ℕ
+accessCode bs x e lists =
+    cond (any (inNoBag bs) (lists x)) 12 (cond (ltb pieceSize (inAll pieceSize (changedAt x (after (parallelBy bs) e) lists))) 13 0)
+
+-- What it gives: a refusal by the same two tests, or the length of the list, the entry named, and which slots hold no entry afterwards.
 unfoldable pub accessed : List Bags → ℕ → Entry → Lists → Slots → Accessed
 accessed bs x e lists slots′ =
     cond (any (inNoBag bs) (lists x)) InNoBag
     (cond (ltb pieceSize (inAll pieceSize (changedAt x (after (parallelBy bs) e) lists))) Full
-    (Done slots′ (length (lists x)) (raceWith (named (parallelBy bs) e (lists x)))))
+    (Done slots′ (length (lists x)) (nobodyOr (named (parallelBy bs) e (lists x)))))
 
 -- One list of slots put in place of another.
 unfoldable pub placeAt : ℕ → List ℕ → (ℕ → List ℕ) → ℕ → List ℕ
@@ -71,33 +79,33 @@ abbrev pub linkTo : List ℕ → ℕ
 linkTo [] = 0
 linkTo (s ∷ ss) = suc s
 
+-- By the rules: does the entry in a slot go; is the new entry left out; and which slots are left in the location's list.
+abbrev pub drops : List Bags → Entry → Pieces → ℕ → Bool
+drops bs e p s = dropped (parallelBy bs) e (entryAt p s)
+
+abbrev pub isOmitted : List Bags → ℕ → Entry → Pieces → Bool
+isOmitted bs x e p = any (omits (parallelBy bs) e) (listsIn p x)
+
+abbrev pub slotsLeft : List Bags → ℕ → Entry → Pieces → List ℕ
+slotsLeft bs x e p = those (λ s. not (drops bs e p s)) (slotsOf (p .heads) (p .links) x)
+
 module _ (bs : List Bags) (x : ℕ) (e : Entry) (p : Pieces) (slots : Slots) where
-  abbrev pub drops : ℕ → Bool
-  drops s = dropped (parallelBy bs) e (entryAt p s)
-
-  abbrev pub isLeftOut : Bool
-  isLeftOut = any (leavesOut (parallelBy bs) e) (listsIn p x)
-
-  -- The slots left in the location's list, and those freed, once the dropped are out.
-  abbrev pub slotsLeft : List ℕ
-  slotsLeft = those (λ s. not (drops s)) (slotsOf (p .heads) (p .links) x)
-
+  -- The slots that are free once the dropped are out; then, the entry added or left out, those of its list, and those that are free.
   abbrev pub pool : List ℕ
-  pool = freeing drops (slotsOf (p .heads) (p .links) x) (slotsFreed (p .links) slots)
+  pool = freeing (drops bs e p) (slotsOf (p .heads) (p .links) x) (slotsFreed (p .links) slots)
 
-  -- The same after the entry is added, or left out.
   abbrev pub slotsHere : List ℕ
-  slotsHere = cond isLeftOut slotsLeft (slotsLeft ++ nextSlot pool (slots .used) ∷ [])
+  slotsHere = cond (isOmitted bs x e p) (slotsLeft bs x e p) (slotsLeft bs x e p ++ nextSlot pool (slots .used) ∷ [])
 
   abbrev pub freedAfter : List ℕ
-  freedAfter = cond isLeftOut pool (freedThen pool)
+  freedAfter = cond (isOmitted bs x e p) pool (freedThen pool)
 
   abbrev pub slotsAfter : Slots
-  slotsAfter = record { freed = linkTo freedAfter; used = cond isLeftOut (slots .used) (usedThen pool (slots .used)) }
+  slotsAfter = record { freed = linkTo freedAfter; used = cond (isOmitted bs x e p) (slots .used) (usedThen pool (slots .used)) }
 
   -- A piece of the entries with a number put in the slot of the entry added.
   abbrev pub stored : ℕ → List ℕ → List ℕ
-  stored number piece = cond isLeftOut piece (set piece (nextSlot pool (slots .used)) number)
+  stored number piece = cond (isOmitted bs x e p) piece (set piece (nextSlot pool (slots .used)) number)
 
   -- What is left where nothing is refused. The links of slots never used, and all that lies past 4,096, are kept.
   pub record Accepted (p′ : Pieces) : Type 0 where

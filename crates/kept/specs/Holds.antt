@@ -1,54 +1,83 @@
--- The pieces through a run: what `empty_lists` and the accesses come to. Each statement can be cited from proofs/Laws.antt, under the name in brackets.
-use Prim.Native.Nat.{ℕ, _<_}
+-- The pieces through a run: what `empty_lists`, the accesses and `clear` come to. Each statement can be cited from proofs/Laws.antt, under the name in
+-- brackets.
+use Prim.Native.Nat.{ℕ, suc, _≤_, _<_}
 use mathlib.Core.Path.{_≡_}
-use mathlib.Core.Bool.{cond}
-use mathlib.Core.List.{List, []}
-use lib.Dec.{ltb}
+use mathlib.Core.Bool.{true, false}
+use mathlib.Core.List.{List}
 use lib.ListN.{length}
 use Rattle.bags.specs.Bags.{Bags}
 use Rattle.kept.specs.declared.Entry.{Entry}
 use Rattle.kept.specs.declared.Slots.{Slots}
-use Rattle.kept.specs.declared.Race.{Race}
+use Rattle.kept.specs.declared.Named.{Named}
 use Rattle.kept.specs.declared.Accessed.{Accessed}
 use Rattle.kept.specs.declared.Accessed.the-variants.{Done, InNoBag, Full}
 use Rattle.kept.specs.Lists.{any}
-use Rattle.kept.specs.Rules.{named, after, Lists, changedAt, inAll}
-use Rattle.kept.specs.Pieces.{Pieces, pieces, pieceSize, listsIn, Fits, Room, noneUsed, cleared}
-use Rattle.kept.specs.Access.{parallelBy, inNoBag, raceWith, codeOf, accessed, slotsAfter, AfterAccess}
+use Rattle.kept.specs.Rules.{reported, named, Lists, inAll}
+use Rattle.kept.specs.Theorem.{Run, kept, visited}
+use Rattle.kept.specs.Pieces.{Pieces, pieces, pieceSize, listsIn, Fits, Room, RestKept, noneUsed, cleared}
+use Rattle.kept.specs.Access.{parallelBy, inNoBag, nobodyOr, isNamed, accessed, slotsAfter, AfterAccess}
 
 -- The pieces hold these lists.
 pub record Holds (lists : Lists) (p : Pieces) (slots : Slots) : Type 0 where
   pub room : Room p slots
   pub held : (y : ℕ) → y < pieceSize → listsIn p y ≡ lists y
 
--- Once the heads are cleared they hold empty lists, whatever the other pieces hold [holds-empty].
-abbrev pub HoldsEmpty : Type 0
-HoldsEmpty =
-    (p : Pieces) → Fits p → Holds (λ y. []) (pieces (cleared pieceSize (p .heads)) (p .links) (p .events) (p .procedures) (p .sets)) noneUsed
+-- What lies past 4,096 of each piece is kept.
+pub record RestsKept (p p′ : Pieces) : Type 0 where
+  pub heads : RestKept pieceSize (p .heads) (p′ .heads)
+  pub links : RestKept pieceSize (p .links) (p′ .links)
+  pub events : RestKept pieceSize (p .events) (p′ .events)
+  pub procedures : RestKept pieceSize (p .procedures) (p′ .procedures)
+  pub sets : RestKept pieceSize (p .sets) (p′ .sets)
 
--- After an access they hold what the rules make of the lists; after a refusal, the same lists.
-abbrev pub HoldsAfter : List Bags → ℕ → Entry → Lists → Pieces → Slots → Accessed → Type 0
-HoldsAfter bs x e lists p′ slots (Done slots′ visits race) = Holds (changedAt x (after (parallelBy bs) e) lists) p′ slots′
-HoldsAfter bs x e lists p′ slots InNoBag = Holds lists p′ slots
-HoldsAfter bs x e lists p′ slots Full = Holds lists p′ slots
+module _ (run : Run) where
+  -- Once the heads are cleared, the pieces hold the lists that are kept at first, whatever the other pieces hold [holds-first]. An event that is no
+  -- access changes nothing [holds-other].
+  abbrev pub HoldsFirst : Type 0
+  HoldsFirst =
+      (p : Pieces) → Fits p → Holds (kept run 0) (pieces (cleared pieceSize (p .heads)) (p .links) (p .events) (p .procedures) (p .sets)) noneUsed
 
--- So it does, by what `access` promises; and the lists held tell what it gives [holds-access].
-abbrev pub HoldsAccess : Type 0
-HoldsAccess =
-    (bs : List Bags) (x : ℕ) (e : Entry) (lists : Lists) (p : Pieces) (slots : Slots) (p′ : Pieces) (r : Accessed) → x < pieceSize → Holds lists p slots
-    → r ≡ accessed bs x e (listsIn p) (slotsAfter bs x e p slots) → AfterAccess bs x e p slots p′ r
-    → (r ≡ accessed bs x e lists (slotsAfter bs x e p slots)) × HoldsAfter bs x e lists p′ slots r
+  abbrev pub HoldsOther : Type 0
+  HoldsOther = (k : ℕ) (p : Pieces) (slots : Slots) → run .accesses k ≡ false → Holds (kept run k) p slots → Holds (kept run (suc k)) p slots
 
--- Its code is 12, 13 or 0, by 01's rules in that order [code-told]; and where nothing is refused it gives the length of the list and the entry
--- named [done-told].
-abbrev pub CodeTold : Type 0
-CodeTold =
-    (bs : List Bags) (x : ℕ) (e : Entry) (lists : Lists) (slots′ : Slots)
-    → codeOf (accessed bs x e lists slots′)
-    ≡ cond (any (inNoBag bs) (lists x)) 12 (cond (ltb pieceSize (inAll pieceSize (changedAt x (after (parallelBy bs) e) lists))) 13 0)
+  -- Event k is this access, and these bags tell which entries are parallel with it.
+  pub record AccessIs (k : ℕ) (bs : List Bags) (x : ℕ) (e : Entry) : Type 0 where
+    pub an-access : run .accesses k ≡ true
+    pub its-location : run .location k ≡ x
+    pub its-entry : run .entry k ≡ e
+    pub told-by-bags : run .parallel k ≡ parallelBy bs
 
-abbrev pub DoneTold : Type 0
-DoneTold =
-    (bs : List Bags) (x : ℕ) (e : Entry) (lists : Lists) (slots′ slots″ : Slots) (visits : ℕ) (race : Race)
-    → Done slots″ visits race ≡ accessed bs x e lists slots′
-    → (slots″ ≡ slots′) × (visits ≡ length (lists x)) × (race ≡ raceWith (named (parallelBy bs) e (lists x)))
+  -- The access k is not refused: no entry kept for its location has its procedure in no bag, and at most 4,096 entries are kept after it. The visits are
+  -- the length of the list, and who is named is named by the rule.
+  pub record NotRefused (k : ℕ) (bs : List Bags) (p′ : Pieces) (slots′ : Slots) (visits : ℕ) (race : Named) : Type 0 where
+    pub lists-held : Holds (kept run (suc k)) p′ slots′
+    pub all-in-bags : any (inNoBag bs) (visited run k) ≡ false
+    pub not-too-many : inAll pieceSize (kept run (suc k)) ≤ pieceSize
+    pub visits-told : visits ≡ length (visited run k)
+    pub race-told : race ≡ nobodyOr (named (run .parallel k) (run .entry k) (visited run k))
+    pub reported-told : isNamed race ≡ reported (run .parallel k) (run .entry k) (visited run k)
+
+  -- What each answer of `access` says, and what the pieces hold then.
+  abbrev pub HoldsAfter : ℕ → List Bags → Pieces → Slots → Accessed → Type 0
+  HoldsAfter k bs p′ slots (Done slots′ visits race) = NotRefused k bs p′ slots′ visits race
+  HoldsAfter k bs p′ slots InNoBag = (any (inNoBag bs) (visited run k) ≡ true) × Holds (kept run k) p′ slots
+  HoldsAfter k bs p′ slots Full =
+      (any (inNoBag bs) (visited run k) ≡ false) × (pieceSize < inAll pieceSize (kept run (suc k))) × Holds (kept run k) p′ slots
+
+  -- So it is, by what `access` promises [holds-next].
+  abbrev pub HoldsNext : Type 0
+  HoldsNext =
+      (k : ℕ) (bs : List Bags) (x : ℕ) (e : Entry) (p : Pieces) (slots : Slots) (p′ : Pieces) (r : Accessed) → x < pieceSize → AccessIs k bs x e
+      → Holds (kept run k) p slots → r ≡ accessed bs x e (listsIn p) (slotsAfter bs x e p slots) → AfterAccess bs x e p slots p′ r
+      → HoldsAfter k bs p′ slots r × RestsKept p p′
+
+-- Clearing keeps what lies past [cleared-rest]; it makes the same of pieces with the same rest [cleared-same]; and a rest that is kept twice is
+-- kept [rest-kept-on].
+abbrev pub ClearedRest : Type 0
+ClearedRest = (n : ℕ) (piece : List ℕ) → n ≤ length piece → RestKept n piece (cleared n piece)
+
+abbrev pub ClearedSame : Type 0
+ClearedSame = (n : ℕ) (piece piece′ : List ℕ) → RestKept n piece piece′ → cleared n piece′ ≡ cleared n piece
+
+abbrev pub RestKeptOn : Type 0
+RestKeptOn = (n : ℕ) (piece piece′ piece″ : List ℕ) → RestKept n piece piece′ → RestKept n piece′ piece″ → RestKept n piece piece″

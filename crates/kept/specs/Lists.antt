@@ -1,4 +1,4 @@
--- Words for lists of anything: what a test says yes to, and who is in a list.
+-- Words for lists of anything: what a test says yes to, and who is in a list; and a sum.
 use Prim.Native.Nat.{ℕ, zero, suc, _+_}
 use mathlib.Core.Path.{_≡_}
 use mathlib.Core.Bool.{Bool, true, false, cond}

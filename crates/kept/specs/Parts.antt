@@ -1,4 +1,4 @@
--- What the parts of an access do: the visits, the unlinking, the appending.
+-- What the parts of an access do: the visits, the unlinking, the appending. A reader who wants only what `access` promises can skip this file.
 use Prim.Native.Nat.{ℕ, zero, suc, _+_, _-_, _≤_, _<_}
 use mathlib.Core.Path.{_≡_}
 use mathlib.Core.Bool.{Bool, true, false, cond, not, _&&_, _||_}
@@ -11,10 +11,10 @@ use Rattle.bags.specs.Bags.{Bags}
 use Rattle.kept.specs.declared.Entry.{Entry}
 use Rattle.kept.specs.declared.Slots.{Slots}
 use Rattle.kept.specs.declared.Seen.{Seen}
-use Rattle.kept.specs.declared.Race.{Race}
-use Rattle.kept.specs.declared.Race.the-variants.{Nobody, With}
+use Rattle.kept.specs.declared.Named.{Named}
+use Rattle.kept.specs.declared.Named.the-variants.{Nobody, With}
 use Rattle.kept.specs.Lists.{those}
-use Rattle.kept.specs.Rules.{races, dropped, leavesOut}
+use Rattle.kept.specs.Rules.{races, dropped, omits}
 use Rattle.kept.specs.Pieces.{pieceSize, entryIn, slotsOf, slotsFreed, Chain, LaidOut, RestKept}
 use Rattle.kept.specs.Access.{parallelBy, inNoBag, placeAt, freeing}
 
@@ -30,13 +30,13 @@ entryOf procedure locks = record { event = record { 0 = 0 }; procedure = record 
 
 -- Nothing is seen yet; one entry more; and, at an access e, the entries in these slots one after the other.
 abbrev pub nothingSeen : Seen
-nothingSeen = record { visits = 0; race = 0; covered = false; dropped = 0; stray = false; last = 0 }
+nothingSeen = record { visits = 0; race = 0; omitted = false; dropped = 0; stray = false; last = 0 }
 
 abbrev pub weighed : ℕ → Bool → Bool → Bool → Bool → Seen → Seen
-weighed at stray racing drops covers seen = record {
+weighed at stray racing drops omits seen = record {
   visits = seen .visits + 1;
   race = cond (racing && eqb (seen .race) 0) at (seen .race);
-  covered = seen .covered || covers;
+  omitted = seen .omitted || omits;
   dropped = cond drops (seen .dropped + 1) (seen .dropped);
   stray = seen .stray || stray;
   last = cond drops (seen .last) at;
@@ -44,7 +44,7 @@ weighed at stray racing drops covers seen = record {
 
 module _ (bs : List Bags) (e : Entry) where
   unfoldable pub weighedEntry : ℕ → Entry → Seen → Seen
-  weighedEntry at k = weighed at (inNoBag bs k) (races (parallelBy bs) e k) (dropped (parallelBy bs) e k) (leavesOut (parallelBy bs) e k)
+  weighedEntry at k = weighed at (inNoBag bs k) (races (parallelBy bs) e k) (dropped (parallelBy bs) e k) (omits (parallelBy bs) e k)
 
   unfoldable pub seenOver : List ℕ → List ℕ → List ℕ → Seen → Seen
   seenOver procedures sets [] seen = seen
@@ -52,7 +52,7 @@ module _ (bs : List Bags) (e : Entry) where
 
 -- The entry would find no slot.
 abbrev pub isFull : Seen → Slots → Bool
-isFull seen slots = not (seen .covered) && eqb (seen .dropped) 0 && eqb (slots .freed) 0 && eqb (slots .used) pieceSize
+isFull seen slots = not (seen .omitted) && eqb (seen .dropped) 0 && eqb (slots .freed) 0 && eqb (slots .used) pieceSize
 
 -- A location's list can be walked.
 pub record Walkable (heads links : List ℕ) (x : ℕ) : Type 0 where
@@ -62,9 +62,9 @@ pub record Walkable (heads links : List ℕ) (x : ℕ) : Type 0 where
   pub few : length (slotsOf heads links x) ≤ pieceSize
 
 -- The entry that a link names.
-abbrev pub raceAt : List ℕ → List ℕ → List ℕ → ℕ → Race
-raceAt events procedures sets zero = Nobody
-raceAt events procedures sets (suc s) = With (entryIn events procedures sets s)
+abbrev pub namedAt : List ℕ → List ℕ → List ℕ → ℕ → Named
+namedAt events procedures sets zero = Nobody
+namedAt events procedures sets (suc s) = With (entryIn events procedures sets s)
 
 -- What comes after slot `last - 1` of a location's list, or first in it where `last` is 0, is now what the link `to` leads to.
 abbrev pub headsLinked : ℕ → ℕ → ℕ → List ℕ → List ℕ

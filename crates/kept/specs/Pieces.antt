@@ -59,7 +59,7 @@ timesIn s [] = 0
 timesIn s (t ∷ ts) = cond (eqb s t) 1 0 + timesIn s ts
 
 -- Heads and links are laid out as these lists of slots, one a location, and these slots freed: each slot below `used` stands in one of them, once,
--- and no other slot in any; so their lengths add up to `used`.
+-- and no other slot in any; and their lengths add up to `used`.
 pub record LaidOut (heads links : List ℕ) (slots : Slots) (lists : ℕ → List ℕ) (freed : List ℕ) : Type 0 where
   pub used-fit : slots .used ≤ pieceSize
   pub chains : (y : ℕ) → y < pieceSize → Chain links (getD heads y 0) (lists y)

@@ -30,12 +30,12 @@ module _ (parallel : Entry → Bool) (e : Entry) where
   unfoldable pub left : List Entry → List Entry
   left = those (λ (k : Entry). not (dropped k))
 
-  -- e is added unless some entry is parallel with e and its set lies within H.
-  unfoldable pub leavesOut : Entry → Bool
-  leavesOut k = parallel k && within (k .locks) (e .locks)
+  -- e is added unless some entry is parallel with e and its set lies within H: such an entry omits e.
+  unfoldable pub omits : Entry → Bool
+  omits k = parallel k && within (k .locks) (e .locks)
 
   unfoldable pub added : List Entry → List Entry
-  added list = cond (any leavesOut list) [] (e ∷ [])
+  added list = cond (any omits list) [] (e ∷ [])
 
   -- All three rules look at the list as it stood before e.
   unfoldable pub after : List Entry → List Entry

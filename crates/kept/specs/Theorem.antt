@@ -61,10 +61,11 @@ module _ (run : Run) where
     pub in-parallel : run .parallel j (run .entry i) ≡ true
     pub nothing-in-common : apart (run .entry i .locks) (run .entry j .locks) ≡ true
 
-  -- The yes or no as 002 asks it, of two events; the laws that it obeys; and each entry has its event's number.
+  -- The yes or no as 002 asks it, of two events.
   abbrev pub parallelTo : ℕ → ℕ → Bool
   parallelTo i j = run .parallel j (run .entry i)
 
+  -- It obeys the two laws of 002, asked of accesses; and each entry has its event's number, which serves the order alone.
   pub record Lawful : Type 0 where
     pub two-laws : YesOrNo (λ k. run .accesses k ≡ true) parallelTo
     pub numbered : (k : ℕ) → run .accesses k ≡ true → run .entry k .event .0 ≡ k
@@ -73,7 +74,7 @@ module _ (run : Run) where
     -- An access is reported exactly if it races with some earlier access.
     pub reported-exactly : (j : ℕ) → run .accesses j ≡ true
         → (reported (run .parallel j) (run .entry j) (visited j) ≡ true) ↔ ((i : ℕ) × Race i j)
-    -- The entry named is the entry of such an access, and the lowest-numbered of those kept.
+    -- The entry named is the entry of such an access, and the lowest-numbered of those kept that race.
     pub named-races : (j : ℕ) (k : Entry) → run .accesses j ≡ true → named (run .parallel j) (run .entry j) (visited j) ≡ some k
         → (i : ℕ) × Race i j × (k ≡ run .entry i)
     pub named-lowest : (j : ℕ) (k l : Entry) → run .accesses j ≡ true → named (run .parallel j) (run .entry j) (visited j) ≡ some k

@@ -11,8 +11,8 @@ ghost use Rattle.bags.specs.Runs.{bagsIn, Room as BagsRoom};
 ghost use Rattle.bags.specs.Ask.{saysParallel};
 ghost use Rattle.kept.specs.Rules.{dropped};
 ghost use Rattle.kept.specs.Pieces.{pieceSize, pieces, slotsOf, slotsFreed, listsIn, LaidOut, Fits, Room, noneUsed, cleared};
-ghost use Rattle.kept.specs.Access.{parallelBy, accessed, slotsAfter, Accepted, AfterAccess};
-ghost use Rattle.kept.specs.Parts.{entryOf, saysNoBag, nothingSeen, weighed, weighedEntry, seenOver, isFull, Walkable, raceAt};
+ghost use Rattle.kept.specs.Access.{parallelBy, codeOf, accessCode, accessed, slotsAfter, Accepted, AfterAccess};
+ghost use Rattle.kept.specs.Parts.{entryOf, saysNoBag, nothingSeen, weighed, weighedEntry, seenOver, isFull, Walkable, namedAt};
 ghost use Rattle.kept.specs.Parts.{headsLinked, linksLinked, dropsBy, howMany, Pruned, slotFor, slotsThen};
 use bags::ask::Answer;
 use bags::ask::Pairs;
@@ -37,15 +37,15 @@ pub struct Slots {
     pub used: u32,
 }
 
-// The kept entry that an access races with.
-pub enum Race {
+// The kept entry that is named: the one that an access races with.
+pub enum Named {
     Nobody,
     With(Entry),
 }
 
-// What an access gives: which slots hold no entry now, the visits and the race; or a refusal.
+// What an access gives: which slots hold no entry now, the visits and who is named; or a refusal.
 pub enum Accessed {
-    Done(Slots, u32, Race),
+    Done(Slots, u32, Named),
     InNoBag,
     Full,
 }
@@ -56,7 +56,7 @@ pub enum Accessed {
 struct Seen {
     visits: u32,
     race: u32,
-    covered: bool,
+    omitted: bool,
     dropped: u32,
     stray: bool,
     last: u32,
@@ -64,16 +64,16 @@ struct Seen {
 
 impl Seen {
     // One entry more is visited.
-    fn with(self, at: u32, stray: bool, races: bool, drops: bool, covers: bool) -> Seen
+    fn with(self, at: u32, stray: bool, races: bool, drops: bool, omits: bool) -> Seen
         requires { ⌜ self .visits < pieceSize ⌝ }
         requires { ⌜ self .dropped ≤ self .visits ⌝ }
-        ensures { λ r. ⌜ r ≡ weighed at stray races drops covers self ⌝ }
+        ensures { λ r. ⌜ r ≡ weighed at stray races drops omits self ⌝ }
     {
         let visits = self.visits + 1;
         Seen {
             visits: visits,
             race: pick(races & (self.race == 0), at, self.race),
-            covered: self.covered | covers,
+            omitted: self.omitted | omits,
             dropped: pick(drops, self.dropped + 1, self.dropped),
             stray: self.stray | stray,
             last: pick(drops, self.last, at),
@@ -84,7 +84,7 @@ impl Seen {
     fn is_full(self, slots: Slots) -> bool
         ensures { λ r. ⌜ r ≡ isFull self slots ⌝ }
     {
-        !self.covered & (self.dropped == 0) & (slots.freed == 0) & (slots.used as usize == PIECE)
+        !self.omitted & (self.dropped == 0) & (slots.freed == 0) & (slots.used as usize == PIECE)
     }
 }
 
@@ -143,10 +143,10 @@ pub fn clear_sets(piece: &mut [u64])
     requires { ⌜ pieceSize ≤ length (now piece) ⌝ }
     ensures { λ _. ⌜ now (piece .exit) ≡ cleared pieceSize (now (piece .entry)) ⌝ }
 {
-    let mut i = 0;
-    while i < PIECE {
-        piece[i] = 0;
-        i += 1;
+    let mut slot = 0;
+    while slot < PIECE {
+        piece[slot] = 0;
+        slot += 1;
     }
 }
 
@@ -173,6 +173,9 @@ pub fn access(
         (listsIn (pieces (now (heads .entry)) (now (links .entry)) (now (events .entry)) (now (procedures .entry)) (now (sets .entry))))
         (slotsAfter (bagsIn (now (starts .entry)) (now (joins .entry)) pairs) location entry
         (pieces (now (heads .entry)) (now (links .entry)) (now (events .entry)) (now (procedures .entry)) (now (sets .entry))) slots) ⌝ }
+    ensures code { λ r.
+        ⌜ codeOf r ≡ accessCode (bagsIn (now (starts .entry)) (now (joins .entry)) pairs) location entry
+        (listsIn (pieces (now (heads .entry)) (now (links .entry)) (now (events .entry)) (now (procedures .entry)) (now (sets .entry)))) ⌝ }
     ensures pieces { λ r.
         ⌜ AfterAccess (bagsIn (now (starts .entry)) (now (joins .entry)) pairs) location entry
         (pieces (now (heads .entry)) (now (links .entry)) (now (events .entry)) (now (procedures .entry)) (now (sets .entry))) slots
@@ -190,13 +193,14 @@ pub fn access(
         starts,
         joins,
     );
+    let full = seen.is_full(slots);
     if seen.stray {
         return Accessed::InNoBag;
     }
-    if seen.is_full(slots) {
+    if full {
         return Accessed::Full;
     }
-    let race = race_at(seen.race, events, procedures, sets);
+    let race = named_at(seen.race, events, procedures, sets);
     let then = change(
         heads,
         links,
@@ -214,7 +218,7 @@ pub fn access(
     Accessed::Done(then, seen.visits, race)
 }
 
-// The dropped go, and the entry comes unless it is covered. Gives which slots hold no entry then.
+// The dropped go, and the entry comes unless it is left out. Gives which slots hold no entry then.
 fn change(
     heads: &mut [u32],
     links: &mut [u32],
@@ -256,7 +260,7 @@ fn change(
         starts,
         joins,
     );
-    if seen.covered {
+    if seen.omitted {
         return pruned;
     }
     append(
@@ -349,7 +353,7 @@ fn look(
     let mut seen = Seen {
         visits: 0,
         race: 0,
-        covered: false,
+        omitted: false,
         dropped: 0,
         stray: false,
         last: 0,
@@ -372,18 +376,18 @@ fn look(
     seen
 }
 
-// The entry that a link names.
-fn race_at(at: u32, events: &[u32], procedures: &[u32], sets: &[u64]) -> Race
+// The entry that a link leads to.
+fn named_at(at: u32, events: &[u32], procedures: &[u32], sets: &[u64]) -> Named
     requires { ⌜ at ≤ length (now events) ⌝ }
     requires { ⌜ at ≤ length (now procedures) ⌝ }
     requires { ⌜ at ≤ length (now sets) ⌝ }
-    ensures { λ r. ⌜ r ≡ raceAt (now (events .entry)) (now (procedures .entry)) (now (sets .entry)) at ⌝ }
+    ensures { λ r. ⌜ r ≡ namedAt (now (events .entry)) (now (procedures .entry)) (now (sets .entry)) at ⌝ }
 {
     if at == 0 {
-        return Race::Nobody;
+        return Named::Nobody;
     }
     let slot = (at - 1) as usize;
-    Race::With(Entry {
+    Named::With(Entry {
         event: EventNumber(events[slot]),
         procedure: ProcedureNumber(procedures[slot]),
         locks: sets[slot],

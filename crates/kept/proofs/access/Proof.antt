@@ -5,8 +5,9 @@ use native.Mathlib.Omega.{arith}
 use borrow.Author.Needs.{needs}
 use Rattle.bags.specs.Runs.{bagsIn}
 use Rattle.kept.specs.Pieces.{Pieces, pieces, pieceSize, Room}
-use Rattle.kept.specs.Access.{accessed}
+use Rattle.kept.specs.Access.{codeOf, accessed}
 use Rattle.kept.proofs.Telling.{Told, seen-tells, room-walkable}
+use Rattle.kept.proofs.Meaning.{code-told}
 use Rattle.kept.proofs.Accepting.{answer-no-bag, answer-full, answer-done}
 use Rattle.kept.proofs.access.Statement.{statement}
 use Rattle.kept.proofs.access.Tie as tie
@@ -34,6 +35,9 @@ look-requires c κs =
     let given = c .before .before .before .before .before .before .before .before .before .before .before .pre in
     (given .0, (room-walkable (pieces _ _ _ _ _) _ _ (given .1 .0) (given .1 .1), (search needs, search needs)))
 
+is-full-requires : tie.Need-is-full-requires
+is-full-requires c κs = search needs
+
 same-length : tie.Need-same-length
 same-length c = search needs
 
@@ -47,10 +51,10 @@ same-length-4 : tie.Need-same-length-4
 same-length-4 c = search needs
 
 returns : tie.Need-returns
-returns c = (answer-no-bag _ _ _ _ _ (room (c .before)) (here (c .before)) _ (told (c .before)) _ (c .if1 .taken), refl)
-
-is-full-requires : tie.Need-is-full-requires
-is-full-requires c κs = search needs
+returns c =
+    let at = c .before .before in
+    let answer = answer-no-bag _ _ _ _ _ (room at) (here at) _ (told at) _ (c .if1 .taken) in
+    (answer, (ap codeOf answer ∙ code-told _ _ _ _ _, refl))
 
 same-length-5 : tie.Need-same-length-5
 same-length-5 c = search needs
@@ -67,19 +71,20 @@ same-length-8 c = search needs
 returns-2 : tie.Need-returns-2
 returns-2 c =
     let at = c .before .before .before in
-    (answer-full _ _ _ _ _ (room at) (here at) _ (told at) _ (c .before .before .if1 .left) (sym (c .before .is-full .ensures) ∙ c .if2 .taken), refl)
+    let answer = answer-full _ _ _ _ _ (room at) (here at) _ (told at) _ (c .before .if1 .left) (sym (c .before .before .is-full .ensures) ∙ c .if2 .taken) in
+    (answer, (ap codeOf answer ∙ code-told _ _ _ _ _, refl))
 
-race-at-requires : tie.Need-race-at-requires
-race-at-requires c κs =
+named-at-requires : tie.Need-named-at-requires
+named-at-requires c κs =
     let small = told (c .before .before .before .before .before .before) .race-fit in
     let held = room (c .before .before .before .before .before .before) .fits in
     (omega (arith, small, held .events-fit), (omega (arith, small, held .procedures-fit), omega (arith, small, held .sets-fit)))
 
 change-requires : tie.Need-change-requires
 change-requires c κs =
-    let full = c .before .before .before .before .before .before .before .before .before .before in
-    let at = full .before .before in
-    (start at .pre .0, (room at, (here at, (at .look .ensures, sym (full .is-full .ensures) ∙ c .before .before .before .before .before .before .before .before .before .if2 .left))))
+    let passed = c .before .before .before .before .before .before .before .before .before in
+    let at = passed .before .before .before in
+    (start at .pre .0, (room at, (here at, (at .look .ensures, sym (passed .before .before .is-full .ensures) ∙ passed .if2 .left))))
 
 same-length-9 : tie.Need-same-length-9
 same-length-9 c = search needs
@@ -103,28 +108,29 @@ returns-3 c =
     let passed = raced .before .before .before .before in
     let at = passed .before .before .before in
     let left = changed .change .ensures in
-    let not-full = sym (passed .before .is-full .ensures) ∙ passed .if2 .left in
+    let not-full = sym (passed .before .before .is-full .ensures) ∙ passed .if2 .left in
     let answer =
-    answer-done _ _ _ _ _ (room at) (here at) _ (told at) _ _ (passed .before .before .if1 .left) not-full (raced .race-at .ensures) in
-    (answer ∙ ap (accessed _ _ _ _) (left .0), left .1)
+    answer-done _ _ _ _ _ (room at) (here at) _ (told at) _ _ (passed .before .if1 .left) not-full (raced .named-at .ensures) in
+    let given = answer ∙ ap (accessed _ _ _ _) (left .0) in
+    (given, (ap codeOf given ∙ code-told _ _ _ _ _, left .1))
 
 pub access-spec : {M : Type 1} → statement M
 access-spec =
     tie.close
     (tie.spec
     look-requires
+    is-full-requires
     same-length
     same-length-2
     same-length-3
     same-length-4
     returns
-    is-full-requires
     same-length-5
     same-length-6
     same-length-7
     same-length-8
     returns-2
-    race-at-requires
+    named-at-requires
     change-requires
     same-length-9
     same-length-10

@@ -116,11 +116,11 @@ same-length-9 c = search needs
 returns-2 : tie.Need-returns-2
 returns-2 c =
     let appended = c .before .before .before .before .before .before .before .before .before .before in
-    let uncovered = appended .before .before .before .before .before .before in
-    let pruned = uncovered .before .before .before .before .before in
+    let not-omitted = appended .before .before .before .before .before .before in
+    let pruned = not-omitted .before .before .before .before .before in
     let at = pruned .before in
     let left = appended .append .ensures in
-    entry-added _ _ _ _ _ (room at) (here at) _ (told at) _ _ _ (pruned .prune .ensures) (uncovered .if1 .left) (not-full at) (left .0) (left .1 .0)
+    entry-added _ _ _ _ _ (room at) (here at) _ (told at) _ _ _ (pruned .prune .ensures) (not-omitted .if1 .left) (not-full at) (left .0) (left .1 .0)
     (left .1 .1 .0) (left .1 .1 .1 .0) (left .1 .1 .1 .1 .0) (left .1 .1 .1 .1 .1)
 
 pub change-spec : {M : Type 1} → statement M

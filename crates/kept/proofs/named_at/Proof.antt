@@ -1,7 +1,7 @@
 use borrow.Author.Needs.{needs}
 use Rattle.kept.proofs.Linking.{race-named}
-use Rattle.kept.proofs.race_at.Statement.{statement}
-use Rattle.kept.proofs.race_at.Tie as tie
+use Rattle.kept.proofs.named_at.Statement.{statement}
+use Rattle.kept.proofs.named_at.Tie as tie
 
 returns : tie.Need-returns
 returns c = search needs
@@ -33,8 +33,8 @@ shared-slice-read-t17 c = search needs
 returns-2 : tie.Need-returns-2
 returns-2 c = race-named _ _ _ (c .before .before .before .before .args .at) (search needs)
 
-pub race-at-spec : {M : Type 1} → statement M
-race-at-spec =
+pub named-at-spec : {M : Type 1} → statement M
+named-at-spec =
     tie.close
     (tie.spec
     returns
