@@ -69,6 +69,11 @@ pub hands-back : (events : ℕ → Act) → HandsBack events
 unfolding maker
 hands-back events s r w = let back = stack-back events s r w in (back, ap (λ (gs : List ℕ). headD gs 0) back)
 
+-- What the yes or no asks: is the maker of the earlier event in a P-bag?
+pub asks-the-maker : (events : ℕ → Act) (i j : ℕ) → bagsSayParallel events i j ≡ inPBag (maker events i) (bags events j)
+unfolding bagsSayParallel
+asks-the-maker events i j = refl
+
 -- ---- The two laws -----------------------------------------------------------------------------------------------------------------------------
 
 pub two-laws : (events : ℕ → Act) → TwoLaws events

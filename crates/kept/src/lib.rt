@@ -292,9 +292,10 @@ fn weigh(
     requires { ⌜ seen .dropped ≤ seen .visits ⌝ }
     ensures { λ r. ⌜ r ≡ weighedEntry (bagsIn (now (starts .entry)) (now (joins .entry)) pairs) entry at (entryOf (procedure .0) locks) seen ⌝ }
 {
-    let nothing_in_common = apart(locks, entry.locks);
-    let lies_within = within(locks, entry.locks);
-    let contains = within(entry.locks, locks);
+    let ours = entry.locks;
+    let nothing_in_common = apart(locks, ours);
+    let lies_within = within(locks, ours);
+    let contains = within(ours, locks);
     if !(nothing_in_common | lies_within | contains) {
         return seen.with(at, !pairs.in_some_bag(procedure), false, false, false);
     }
@@ -420,7 +421,8 @@ fn drops(
     requires { ⌜ BagsRoom (now starts) (now joins) pairs ⌝ }
     ensures { λ r. ⌜ r ≡ dropped (parallelBy (bagsIn (now (starts .entry)) (now (joins .entry)) pairs)) entry (entryOf (procedure .0) locks) ⌝ }
 {
-    if !within(entry.locks, locks) {
+    let ours = entry.locks;
+    if !within(ours, locks) {
         return false;
     }
     !says_parallel(pairs.ask(starts, joins, procedure))

@@ -1,3 +1,4 @@
+-- The slot's numbers are stored one after the other, and then it is linked in; each piece at exit is what was stored. Assumes nothing.
 use mathlib.Core.Path.{_∙_}
 use native.Mathlib.Omega.{arith}
 use lib.ListN.{length-set}

@@ -1,3 +1,4 @@
+-- An entry goes if its set contains ours and the bags say that it precedes: the two laws of `Visits`. Assumes nothing.
 use borrow.Author.Needs.{needs}
 use Rattle.kept.proofs.Visits.{not-dropped-unasked, dropped-asked}
 use Rattle.kept.proofs.drops.Statement.{statement}

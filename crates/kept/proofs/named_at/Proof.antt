@@ -1,3 +1,4 @@
+-- Link 0 names nobody, and any other the entry in its slot. Assumes nothing.
 use borrow.Author.Needs.{needs}
 use Rattle.kept.proofs.Linking.{race-named}
 use Rattle.kept.proofs.named_at.Statement.{statement}

@@ -1,3 +1,4 @@
+-- Where there is no last entry the head is stored, and else the last entry's link. Assumes nothing.
 use borrow.Author.Needs.{needs}
 use Rattle.kept.proofs.Linking.{linked-first, linked-after}
 use Rattle.kept.proofs.relink.Statement.{statement}

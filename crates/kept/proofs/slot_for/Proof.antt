@@ -1,3 +1,4 @@
+-- The two cases of `slotFor`. Assumes nothing.
 use borrow.Author.Needs.{needs}
 use borrow.Author.Tests.{eq-eqb, ne-eqb}
 use Rattle.kept.proofs.slot_for.Statement.{statement}

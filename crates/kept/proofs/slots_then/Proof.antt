@@ -1,3 +1,4 @@
+-- The two cases of `slotsThen`. Assumes nothing.
 use borrow.Author.Needs.{needs}
 use borrow.Author.Tests.{eq-eqb, ne-eqb}
 use Rattle.kept.proofs.slots_then.Statement.{statement}

@@ -1,3 +1,4 @@
+-- An entry is weighed by what the bags say of it, or without them: the two laws of `Visits`. Assumes nothing.
 use borrow.Author.Needs.{needs}
 use Rattle.kept.proofs.Visits.{weighed-unasked, weighed-asked}
 use Rattle.kept.proofs.weigh.Statement.{statement}
