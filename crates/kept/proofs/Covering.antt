@@ -2,13 +2,12 @@
 -- parallel with. Then whoever races with a races with i. At every event each earlier access to a location is covered by one that is kept there: an
 -- entry that is dropped precedes the new access, which covers it by lemma 1 of 002; and an access that is left out is covered, by lemma 2, by the
 -- parallel entry that leaves it out, which stays. The entries kept are in event order and have different lock sets: each entry that stays is earlier
--- than the new one, and has another set. And different sets, all of them used at the location, are no more than the sets used there. Also, the rules
--- ask of "parallel" only what it says of the entries in the list. Assumes nothing.
+-- than the new one, and has another set. And different sets, all of them used at the location, are no more than the sets used there. Assumes nothing.
 use Prim.Native.Nat.{ℕ, zero, suc, _≤_, _<_}
-use mathlib.Core.Path.{_≡_, refl, sym, ap, ap₂, _∙_}
+use mathlib.Core.Path.{_≡_, refl, sym, ap, _∙_}
 use mathlib.Core.Logic.{_↔_, _⊎_, inl, inr, ⊎-elim}
-use mathlib.Core.Bool.{Bool, true, false, cond, not, _&&_, and-eq-true-iff, true≢false}
-use mathlib.Core.List.{List, [], _∷_, _++_, map, append-nil}
+use mathlib.Core.Bool.{Bool, true, false, not, _&&_, and-eq-true-iff, true≢false}
+use mathlib.Core.List.{List, [], _∷_, map, append-nil}
 use native.Mathlib.Decide.{decLt}
 use native.Mathlib.Nat.{not-suc-le-zero, le-of-eq}
 use native.Mathlib.Omega.{arith}
@@ -22,7 +21,7 @@ use Rattle.kept.specs.Lists.{any, In}
 use Rattle.kept.specs.Rules.{races, reported, named, dropped, left, omits, added, after, changedAt}
 use Rattle.kept.specs.Theorem.{Run, AllDifferent, InEventOrder, kept, visited, setsUsed, Earlier, Race, parallelTo, Lawful, KeptTheorem}
 use Rattle.kept.proofs.Lists.{either-way, any-has, has-any, any-none, first-has, those-has, has-those, in-front, in-back, in-either}
-use Rattle.kept.proofs.Lists.{any-agree, first-agree, those-agree, map-has, Pairwise, pairwise-those, pairwise-one-more, first-related}
+use Rattle.kept.proofs.Lists.{map-has, Pairwise, pairwise-those, pairwise-one-more, first-related}
 use Rattle.kept.proofs.Lists.{pairwise-different, different-no-more}
 
 -- One entry's event comes before another's.
@@ -103,34 +102,6 @@ module _ (parallel : Entry → Bool) (e : Entry) where
   races-means : (l : Entry) → (races parallel e l ≡ true) ↔ ((parallel l ≡ true) × (apart (l .locks) (e .locks) ≡ true))
   unfolding races
   races-means l = and-eq-true-iff (parallel l) (apart (l .locks) (e .locks))
-
--- ---- two ways to say "parallel" that agree on a list
-
-module _ (p q : Entry → Bool) (e : Entry) (list : List Entry) (agree : (l : Entry) → In l list → p l ≡ q l) where
-  -- By either, the same entries race,
-  races-agree : (l : Entry) → In l list → races p e l ≡ races q e l
-  unfolding races
-  races-agree l h = ap (λ (b : Bool). b && apart (l .locks) (e .locks)) (agree l h)
-
-  -- e is reported or not,
-  pub reported-agree : reported p e list ≡ reported q e list
-  unfolding reported
-  reported-agree = any-agree (races p e) (races q e) list races-agree
-
-  -- the same entry is named,
-  pub named-agree : named p e list ≡ named q e list
-  unfolding named
-  named-agree = first-agree (races p e) (races q e) list races-agree
-
-  -- and the same is kept.
-  pub after-agree : after p e list ≡ after q e list
-  unfolding after left dropped added omits
-  after-agree =
-      ap₂ (λ (stayed new : List Entry). stayed ++ new)
-      (those-agree (λ (k : Entry). not (dropped p e k)) (λ (k : Entry). not (dropped q e k)) list
-      (λ l h. ap (λ (b : Bool). not (not b && within (e .locks) (l .locks))) (agree l h)))
-      (ap (λ (b : Bool). cond b [] (e ∷ []))
-      (any-agree (omits p e) (omits q e) list (λ l h. ap (λ (b : Bool). b && within (l .locks) (e .locks)) (agree l h))))
 
 -- ---- what is kept, event by event
 
@@ -219,6 +190,35 @@ module _ (run : Run) where
   earlier-is-used i (suc k) x h =
       ⊎-elim (λ (o : Earlier run i k x). used-stays k x (run .entry i .locks) (earlier-is-used i k x o))
       (λ (same : i ≡ k). rw same (own-is-used k x (rw same at (h .an-access)) (rw same at (h .there)))) (earlier-or-now i k x h)
+
+  -- And every set among those used is the set of an earlier access.
+  used-was-earlier : (k x n : ℕ) → In n (setsUsed run k x) → (i : ℕ) × Earlier run i k x × (run .entry i .locks ≡ n)
+  unfolding setsUsed In
+  used-was-earlier zero x n h = absurd h
+  used-was-earlier (suc k) x n h =
+      let set = run .entry k .locks in
+      let older : In n (setsUsed run k x) → (i : ℕ) × Earlier run i (suc k) x × (run .entry i .locks ≡ n) =
+      λ o.
+      let was = used-was-earlier k x n o in
+      (was .0, record { before = omega (arith, was .1 .before); an-access = was .1 .an-access; there = was .1 .there }, was .2) in
+      either-way (run .accesses k && eqb x (run .location k)) (λ q.
+      let both = and-eq-true-iff (run .accesses k) (eqb x (run .location k)) .0 q in
+      either-way (any (eqb set) (setsUsed run k x)) (λ t. older (rw (q, t) at h)) (λ t.
+      ⊎-elim (λ (same : n ≡ set). (
+        k,
+        record { before = omega arith; an-access = both .0; there = sym (eqb-true x (run .location k) (both .1)) },
+        sym same,
+      )) older (rw (q, t) at h))) (λ q. older (rw q at h))
+
+  -- No set stands among them twice.
+  used-differ : (k x : ℕ) → AllDifferent (setsUsed run k x)
+  unfolding setsUsed AllDifferent
+  used-differ zero x = tt
+  used-differ (suc k) x =
+      let set = run .entry k .locks in
+      either-way (run .accesses k && eqb x (run .location k))
+      (λ q. either-way (any (eqb set) (setsUsed run k x)) (λ t. rw (q, t) (used-differ k x)) (λ t. rw (q, t) (t, used-differ k x)))
+      (λ q. rw q (used-differ k x))
 
   -- Not more entries are kept for a location than different sets were used there.
   few-visits : (k x : ℕ) → length (kept run k x) ≤ length (setsUsed run k x)
@@ -375,5 +375,7 @@ kept-suffices run lawful = record {
   kept-accesses = kept-accesses run;
   kept-in-order = λ k x. in-event-order (kept run k x) (kept-ordered run lawful k x);
   sets-differ = sets-differ run;
+  sets-used = λ k x set. (used-was-earlier run k x set, λ was. rw (← was .2) (earlier-is-used run (was .0) k x (was .1)));
+  sets-used-differ = used-differ run;
   few-visits = few-visits run;
 }

@@ -1,11 +1,11 @@
 -- General laws of lists: what `any`, `first` and `those` say of who is in a list; lists of which each pair stands in a relation; and that different
 -- numbers, all from one list, are no more than that list is long. Each is by induction on the list. Assumes nothing.
 use Prim.Native.Nat.{ℕ, _≤_, _<_, zero-le, suc-le-suc}
-use mathlib.Core.Path.{_≡_, refl, sym, ap, ap₂, _∙_, subst}
+use mathlib.Core.Path.{_≡_, refl, sym, ap, _∙_, subst}
 use mathlib.Core.Logic.{_⊎_, inl, inr, ⊎-elim}
-use mathlib.Core.Bool.{Bool, true, false, cond, not, true≢false}
+use mathlib.Core.Bool.{Bool, true, false, not, true≢false}
 use mathlib.Core.List.{List, [], _∷_, _++_, map}
-use mathlib.Core.Option.{Option, some, Option·some-injective, Option·none-ne-some}
+use mathlib.Core.Option.{some, Option·some-injective, Option·none-ne-some}
 use native.Mathlib.Omega.{arith}
 use lib.Dec.{eqb}
 use lib.ListN.{length}
@@ -87,25 +87,6 @@ module _ {A : Type 0} where
   in-either [] rest a h = inr h
   in-either (b ∷ list) rest a (inl q) = inl (inl q)
   in-either (b ∷ list) rest a (inr h) = ⊎-elim (λ (f : In a list). inl (inr f)) (λ (l : In a rest). inr l) (in-either list rest a h)
-
-  -- Tests that agree on a list say the same of it.
-  pub any-agree : (p q : A → Bool) (list : List A) → ((a : A) → In a list → p a ≡ q a) → any p list ≡ any q list
-  unfolding any In
-  any-agree p q [] f = refl
-  any-agree p q (a ∷ list) f =
-      ap₂ (λ (b : Bool) (rest : Bool). cond b true rest) (f a (inl refl)) (any-agree p q list (λ b h. f b (inr h)))
-
-  pub first-agree : (p q : A → Bool) (list : List A) → ((a : A) → In a list → p a ≡ q a) → first p list ≡ first q list
-  unfolding first In
-  first-agree p q [] f = refl
-  first-agree p q (a ∷ list) f =
-      ap₂ (λ (b : Bool) (rest : Option A). cond b (some a) rest) (f a (inl refl)) (first-agree p q list (λ b h. f b (inr h)))
-
-  pub those-agree : (p q : A → Bool) (list : List A) → ((a : A) → In a list → p a ≡ q a) → those p list ≡ those q list
-  unfolding those In
-  those-agree p q [] f = refl
-  those-agree p q (a ∷ list) f =
-      ap₂ (λ (b : Bool) (rest : List A). cond b (a ∷ rest) rest) (f a (inl refl)) (those-agree p q list (λ b h. f b (inr h)))
 
   -- Those to which a test says yes are no more than all, and fewer where it says no to one.
   those-no-more : (test : A → Bool) (list : List A) → length (those test list) ≤ length list

@@ -83,6 +83,9 @@ module _ (run : Run) where
     pub kept-accesses : (k x : ℕ) (l : Entry) → In l (kept k x) → (i : ℕ) × Earlier i k x × (l ≡ run .entry i)
     pub kept-in-order : (k x : ℕ) → InEventOrder (kept k x)
     pub sets-differ : (k x : ℕ) → AllDifferent (map (λ (l : Entry). l .locks) (kept k x))
+    -- The sets that are counted are those of the earlier accesses there, each counted once.
+    pub sets-used : (k x set : ℕ) → In set (setsUsed k x) ↔ ((i : ℕ) × Earlier i k x × (run .entry i .locks ≡ set))
+    pub sets-used-differ : (k x : ℕ) → AllDifferent (setsUsed k x)
     -- So the visits at an access are at most the number of different lock sets used earlier at its location.
     pub few-visits : (k x : ℕ) → length (kept k x) ≤ length (setsUsed k x)
 
