@@ -39,18 +39,19 @@ codeOf (Done slots visits race) = 0
 codeOf InNoBag = 12
 codeOf Full = 13
 
--- The code of an access e to location x, the bags and the lists being as they stand before it: 12 if an entry kept for the location has its procedure
--- in no bag; then 13 if after the rules more than 4,096 entries would be kept in all.
-abbrev pub accessCode : List Bags → ℕ → Entry → Lists → ℕ
-accessCode bs x e lists =
-    cond (any (inNoBag bs) (lists x)) 12 (cond (ltb pieceSize (inAll pieceSize (changedAt x (after (parallelBy bs) e) lists))) 13 0)
+-- At an access e to location x, the bags and the lists being as they stand before it: one thing if an entry kept for the location has its procedure
+-- in no bag; then another if after the rules more than 4,096 entries would be kept in all; and else a third.
+abbrev pub byTests : {A : Type 0} → List Bags → ℕ → Entry → Lists → A → A → A → A
+byTests bs x e lists one another third =
+    cond (any (inNoBag bs) (lists x)) one (cond (ltb pieceSize (inAll pieceSize (changedAt x (after (parallelBy bs) e) lists))) another third)
 
--- What it gives: a refusal by the same two tests, or the length of the list, the entry named, and which slots hold no entry afterwards.
+-- Its code; and what it gives: a refusal, or the length of the list, the entry named, and which slots hold no entry afterwards.
+abbrev pub accessCode : List Bags → ℕ → Entry → Lists → ℕ
+accessCode bs x e lists = byTests bs x e lists 12 13 0
+
 unfoldable pub accessed : List Bags → ℕ → Entry → Lists → Slots → Accessed
 accessed bs x e lists slots′ =
-    cond (any (inNoBag bs) (lists x)) InNoBag
-    (cond (ltb pieceSize (inAll pieceSize (changedAt x (after (parallelBy bs) e) lists))) Full
-    (Done slots′ (length (lists x)) (nobodyOr (named (parallelBy bs) e (lists x)))))
+    byTests bs x e lists InNoBag Full (Done slots′ (length (lists x)) (nobodyOr (named (parallelBy bs) e (lists x))))
 
 -- One list of slots put in place of another.
 unfoldable pub placeAt : ℕ → List ℕ → (ℕ → List ℕ) → ℕ → List ℕ
