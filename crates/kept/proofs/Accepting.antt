@@ -64,12 +64,15 @@ full-by-numbers false zero f zero u t fit sum same =
 full-by-numbers false zero f (suc k) u t fit sum same = rw (same, eqb·suc-zero k) (sym (le-ltb pieceSize t (omega arith)))
 full-by-numbers false (suc d) f k u t fit sum same = rw (eqb·suc-zero d) (sym (le-ltb pieceSize t (omega arith)))
 
--- What is the same past the used slots is the same past one more.
+-- What is the same from one place on is the same from a later one on; so what is the same past the used slots is the same past one more.
+pub past-more : (n m : ℕ) (l l′ : List ℕ) → n ≤ m → drop n l ≡ drop n l′ → drop m l ≡ drop m l′
+past-more n m l l′ h same =
+    let whole : n + (m - n) ≡ m = omega arith in
+    rw whole at (sym (drop-drop (m - n) n l) ∙ ap (drop (m - n)) same ∙ drop-drop (m - n) n l′)
+
 past-used : (freed : List ℕ) (used : ℕ) (links links′ : List ℕ) → drop used links ≡ drop used links′
     → drop (usedThen freed used) links ≡ drop (usedThen freed used) links′
-past-used [] used links links′ same =
-    let one-more : used + 1 ≡ suc used = omega arith in
-    rw one-more at (sym (drop-drop 1 used links) ∙ ap (drop 1) same ∙ drop-drop 1 used links′)
+past-used [] used links links′ same = past-more used (suc used) links links′ (omega arith) same
 past-used (s ∷ ss) used links links′ same = same
 
 -- The link is 0 exactly where there is nothing to lead to.

@@ -22,8 +22,8 @@ use Rattle.kept.specs.Access.{parallelBy, codeOf, freeing, nextSlot, fre
 use Rattle.kept.specs.Parts.{nothingSeen, weighedEntry, seenOver, isFull}
 
 -- The entry of an event, made by a procedure under a lock set.
-abbrev entryOf : ℕ → ℕ → ℕ → Entry
-entryOf event procedure locks = record { event = record { 0 = event }; procedure = record { 0 = procedure }; locks = locks }
+abbrev entryBy : ℕ → ℕ → ℕ → Entry
+entryBy event procedure locks = record { event = record { 0 = event }; procedure = record { 0 = procedure }; locks = locks }
 
 -- ---- dropped entry
 
@@ -33,7 +33,7 @@ abbrev pub dropped-entry : Run
 dropped-entry = record {
   accesses = λ k. eqb k 2 || eqb k 5 || eqb k 7;
   location = λ k. 0;
-  entry = λ k. entryOf k (cond (eqb k 2) 2 (cond (eqb k 5) 1 0)) 0;
+  entry = λ k. entryBy k (cond (eqb k 2) 2 (cond (eqb k 5) 1 0)) 0;
   parallel = λ k l. eqb k 7;
 }
 
@@ -46,9 +46,9 @@ dropped-entry-lawful = record {
 
 -- Event 5 drops the entry of event 2, so that before event 7 its own is the only one kept, and at event 7 it is the one named.
 pub dropped-entry-as-known :
-    (kept dropped-entry 5 0 ≡ entryOf 2 2 0 ∷ [])
-    × (kept dropped-entry 7 0 ≡ entryOf 5 1 0 ∷ [])
-    × (named (dropped-entry .parallel 7) (dropped-entry .entry 7) (visited dropped-entry 7) ≡ some (entryOf 5 1 0))
+    (kept dropped-entry 5 0 ≡ entryBy 2 2 0 ∷ [])
+    × (kept dropped-entry 7 0 ≡ entryBy 5 1 0 ∷ [])
+    × (named (dropped-entry .parallel 7) (dropped-entry .entry 7) (visited dropped-entry 7) ≡ some (entryBy 5 1 0))
 unfolding kept changedAt after left dropped added omits named races any first those isIn every apart within
 dropped-entry-as-known = (refl, refl, refl)
 
@@ -68,7 +68,7 @@ abbrev pub two-locks : ℕ → Run
 two-locks set = record {
   accesses = λ k. ltb k 3;
   location = λ k. 0;
-  entry = λ k. entryOf k k (cond (eqb k 0) 1 (cond (eqb k 1) 2 set));
+  entry = λ k. entryBy k k (cond (eqb k 0) 1 (cond (eqb k 1) 2 set));
   parallel = λ k l. true;
 }
 
@@ -81,16 +81,16 @@ two-locks-lawful set = record {
 
 -- Both writers are kept: neither set lies within the other. Under lock 0 event 2 races with event 1 alone, and under lock 1 with event 0 alone.
 pub both-kept :
-    ((set : ℕ) → visited (two-locks set) 2 ≡ entryOf 0 0 1 ∷ entryOf 1 1 2 ∷ [])
-    × (named (two-locks 1 .parallel 2) (two-locks 1 .entry 2) (visited (two-locks 1) 2) ≡ some (entryOf 1 1 2))
-    × (named (two-locks 2 .parallel 2) (two-locks 2 .entry 2) (visited (two-locks 2) 2) ≡ some (entryOf 0 0 1))
+    ((set : ℕ) → visited (two-locks set) 2 ≡ entryBy 0 0 1 ∷ entryBy 1 1 2 ∷ [])
+    × (named (two-locks 1 .parallel 2) (two-locks 1 .entry 2) (visited (two-locks 1) 2) ≡ some (entryBy 1 1 2))
+    × (named (two-locks 2 .parallel 2) (two-locks 2 .entry 2) (visited (two-locks 2) 2) ≡ some (entryBy 0 0 1))
 unfolding kept changedAt after left dropped added omits named races any first those isIn every apart within
 both-kept = (λ set. refl, refl, refl)
 
 -- So with only one of the two writers kept, whichever it is, event 2 would not be reported under that writer's lock, though it races with the other.
 pub one-is-too-few :
-    (reported (two-locks 1 .parallel 2) (two-locks 1 .entry 2) (entryOf 0 0 1 ∷ []) ≡ false)
-    × (reported (two-locks 2 .parallel 2) (two-locks 2 .entry 2) (entryOf 1 1 2 ∷ []) ≡ false)
+    (reported (two-locks 1 .parallel 2) (two-locks 1 .entry 2) (entryBy 0 0 1 ∷ []) ≡ false)
+    × (reported (two-locks 2 .parallel 2) (two-locks 2 .entry 2) (entryBy 1 1 2 ∷ []) ≡ false)
 unfolding reported races any isIn every apart
 one-is-too-few = (refl, refl)
 
@@ -109,25 +109,25 @@ abbrev mainRuns : List Bags
 mainRuns = record { owner = 0; S = 0 ∷ []; P = 1 ∷ [] } ∷ []
 
 abbrev new : ℕ → Entry
-new locks = entryOf 9 0 locks
+new locks = entryBy 9 0 locks
 
 -- An entry that precedes and whose set contains all of H is dropped, also where the sets share a lock; one that is parallel stays, and leaves the new
 -- one out if its set lies within H.
 pub dropped-or-not :
-    (after (parallelBy mainRuns) (new 1) (entryOf 3 0 1 ∷ []) ≡ new 1 ∷ [])
-    × (after (parallelBy mainRuns) (new 1) (entryOf 3 0 3 ∷ []) ≡ new 1 ∷ [])
-    × (after (parallelBy mainRuns) (new 1) (entryOf 3 1 1 ∷ []) ≡ entryOf 3 1 1 ∷ [])
-    × (after (parallelBy mainRuns) (new 1) (entryOf 3 1 3 ∷ []) ≡ entryOf 3 1 3 ∷ new 1 ∷ [])
+    (after (parallelBy mainRuns) (new 1) (entryBy 3 0 1 ∷ []) ≡ new 1 ∷ [])
+    × (after (parallelBy mainRuns) (new 1) (entryBy 3 0 3 ∷ []) ≡ new 1 ∷ [])
+    × (after (parallelBy mainRuns) (new 1) (entryBy 3 1 1 ∷ []) ≡ entryBy 3 1 1 ∷ [])
+    × (after (parallelBy mainRuns) (new 1) (entryBy 3 1 3 ∷ []) ≡ entryBy 3 1 3 ∷ new 1 ∷ [])
 unfolding after left dropped added omits any those isIn every within member inPBag
 dropped-or-not = (refl, refl, refl, refl)
 
 -- An entry that precedes, with a smaller set, neither goes nor leaves the new one out: both are kept, though both write.
-pub smaller-set-stays : after (parallelBy mainRuns) (new 1) (entryOf 3 0 0 ∷ []) ≡ entryOf 3 0 0 ∷ new 1 ∷ []
+pub smaller-set-stays : after (parallelBy mainRuns) (new 1) (entryBy 3 0 0 ∷ []) ≡ entryBy 3 0 0 ∷ new 1 ∷ []
 unfolding after left dropped added omits any those isIn every within member inPBag
 smaller-set-stays = refl
 
 -- Of two entries that race the first is named.
-pub first-is-named : named (parallelBy mainRuns) (new 0) (entryOf 3 1 1 ∷ entryOf 4 1 2 ∷ []) ≡ some (entryOf 3 1 1)
+pub first-is-named : named (parallelBy mainRuns) (new 0) (entryBy 3 1 1 ∷ entryBy 4 1 2 ∷ []) ≡ some (entryBy 3 1 1)
 unfolding named races first isIn every apart member inPBag
 first-is-named = refl
 
@@ -172,7 +172,7 @@ unfolding slotsFrom
 slots-of-a-link = (refl, refl)
 
 -- A slot holds an event, a procedure and a lock set, each in its own piece.
-pub entry-in-a-slot : entryAt (pieces [] [] (5 ∷ []) (1 ∷ []) (3 ∷ [])) 0 ≡ entryOf 5 1 3
+pub entry-in-a-slot : entryAt (pieces [] [] (5 ∷ []) (1 ∷ []) (3 ∷ [])) 0 ≡ entryBy 5 1 3
 entry-in-a-slot = refl
 
 -- Clearing two numbers leaves the third.

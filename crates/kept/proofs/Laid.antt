@@ -1,7 +1,6 @@
 -- Layouts: each used slot stands once in all lists together, so what changes the links of one list leaves the other lists as they are. So taking a
 -- slot out of a list and freeing it, and putting the next slot at the end of a list, leave a layout: the list concerned is a chain by `relinked`, the
--- others by frames, and the counts change by the one slot moved. A layout is what walking finds, and, with what lies past it, determines heads and
--- links. Assumes nothing.
+-- others by frames, and the counts change by the one slot moved. A layout is what walking finds. Assumes nothing.
 use Prim.Native.Nat.{ℕ, zero, suc, _+_, _-_, _≤_, _<_}
 use mathlib.Core.Path.{_≡_, refl, sym, ap, _∙_, fun-ext}
 use mathlib.Core.Logic.{_≢_, _⊎_, inl, inr, ⊎-elim}

@@ -10,7 +10,7 @@ use native.Mathlib.Decide.{ℕ-discrete}
 use native.Mathlib.Omega.{arith}
 use lib.Dec.{eqb, ltb}
 use lib.ListN.{length, getD, drop, replicate, length-append, length-drop, length-replicate, length-set, getD-replicate, List·getD-append}
-use lib.Seq.{getD-set-same, getD-set-other, drop-set-lt, drop-drop}
+use lib.Seq.{getD-set-same, getD-set-other, drop-set-lt}
 use borrow.Author.Tests.{eq-eqb, ne-eqb, le-ltb}
 use Rattle.bags.specs.Bags.{Bags}
 use Rattle.kept.specs.declared.Entry.{Entry}
@@ -28,7 +28,7 @@ use Rattle.kept.proofs.Lists.{either-way}
 use Rattle.kept.proofs.Sums.{sum-agree}
 use Rattle.kept.proofs.Chains.{times-append, times-self}
 use Rattle.kept.proofs.Laid.{place-here, place-elsewhere, stands-once, stands-in-one, laid-used, laid-slots, laid-computed}
-use Rattle.kept.proofs.Accepting.{those-of-map}
+use Rattle.kept.proofs.Accepting.{those-of-map, past-more}
 
 -- ---- empty lists
 
@@ -295,11 +295,7 @@ module _ (bs : List Bags) (x : ℕ) (e : Entry) (p : Pieces) (slots : Slots) (ro
 
   links-rest-all : drop pieceSize (p′ .links) ≡ drop pieceSize (p .links)
   links-rest-all =
-      let used = slotsAfter bs x e p slots .used in
-      let whole : used + (pieceSize - used) ≡ pieceSize = omega (arith, accepted .laid-out .used-fit) in
-      rw whole at
-      (sym (drop-drop (pieceSize - used) used (p′ .links)) ∙ ap (drop (pieceSize - used)) (accepted .links-rest .same-rest)
-      ∙ drop-drop (pieceSize - used) used (p .links))
+      past-more (slotsAfter bs x e p slots .used) pieceSize (p′ .links) (p .links) (accepted .laid-out .used-fit) (accepted .links-rest .same-rest)
 
   rests-after : RestsKept p p′
   rests-after = record {
@@ -331,22 +327,22 @@ rests-kept bs x e p slots p′ InNoBag here room same = rw same (same-rests p)
 rests-kept bs x e p slots p′ Full here room same = rw same (same-rests p)
 
 -- After an access they hold what the rules make of the lists; after a refusal, the same lists.
-abbrev HoldsAfter : List Bags → ℕ → Entry → Lists → Pieces → Slots → Accessed → Type 0
-HoldsAfter bs x e lists p′ slots (Done slots′ visits race) = Holds (changedAt x (after (parallelBy bs) e) lists) p′ slots′
-HoldsAfter bs x e lists p′ slots InNoBag = Holds lists p′ slots
-HoldsAfter bs x e lists p′ slots Full = Holds lists p′ slots
+abbrev ListsAfter : List Bags → ℕ → Entry → Lists → Pieces → Slots → Accessed → Type 0
+ListsAfter bs x e lists p′ slots (Done slots′ visits race) = Holds (changedAt x (after (parallelBy bs) e) lists) p′ slots′
+ListsAfter bs x e lists p′ slots InNoBag = Holds lists p′ slots
+ListsAfter bs x e lists p′ slots Full = Holds lists p′ slots
 
 -- So it does, by what `access` promises; and the lists held tell what it gives.
 abbrev HoldsAccess : Type 0
 HoldsAccess =
     (bs : List Bags) (x : ℕ) (e : Entry) (lists : Lists) (p : Pieces) (slots : Slots) (p′ : Pieces) (r : Accessed) → x < pieceSize → Holds lists p slots
     → r ≡ accessed bs x e (listsIn p) (slotsAfter bs x e p slots) → AfterAccess bs x e p slots p′ r
-    → (r ≡ accessed bs x e lists (slotsAfter bs x e p slots)) × HoldsAfter bs x e lists p′ slots r
+    → (r ≡ accessed bs x e lists (slotsAfter bs x e p slots)) × ListsAfter bs x e lists p′ slots r
 
 -- After each answer the pieces hold the lists that they should.
 holds-after : (bs : List Bags) (x : ℕ) (e : Entry) (lists : Lists) (p : Pieces) (slots : Slots) (p′ : Pieces) (r : Accessed) → x < pieceSize
     → Holds lists p slots → r ≡ accessed bs x e (listsIn p) (slotsAfter bs x e p slots) → AfterAccess bs x e p slots p′ r
-    → HoldsAfter bs x e lists p′ slots r
+    → ListsAfter bs x e lists p′ slots r
 holds-after bs x e lists p slots p′ (Done slots′ visits race) here holds is accepted =
     let same = done-told bs x e (listsIn p) (slotsAfter bs x e p slots) slots′ visits race is .0 in
     record {

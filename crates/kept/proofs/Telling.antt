@@ -59,10 +59,10 @@ count-of-more : (b : Bool) (d s : ℕ) (rest : List ℕ) → cond b (d + 1) d + 
 count-of-more true d s rest = omega arith
 count-of-more false d s rest = omega arith
 
-last-of-more : (b : Bool) (before s : ℕ) (rest : List ℕ) → lastFrom (cond b before (suc s)) rest ≡ lastFrom before (cond (not b) (s ∷ rest) rest)
+last-from-more : (b : Bool) (before s : ℕ) (rest : List ℕ) → lastFrom (cond b before (suc s)) rest ≡ lastFrom before (cond (not b) (s ∷ rest) rest)
 unfolding lastFrom
-last-of-more true before s rest = refl
-last-of-more false before s rest = refl
+last-from-more true before s rest = refl
+last-from-more false before s rest = refl
 
 -- One more that races, or not: the first found stands.
 race-of-more : (b : Bool) (r s : ℕ) (found : Option ℕ)
@@ -120,7 +120,7 @@ module _ (bs : List Bags) (e : Entry) (procedures sets : List ℕ) where
   last-seen [] seen = refl
   last-seen (s ∷ ss) seen =
       last-seen ss (next s seen)
-      ∙ last-of-more (dropsBy bs e procedures sets s) (seen .last) s (those (λ s. not (dropsBy bs e procedures sets s)) ss)
+      ∙ last-from-more (dropsBy bs e procedures sets s) (seen .last) s (those (λ s. not (dropsBy bs e procedures sets s)) ss)
 
   race-seen : (ss : List ℕ) (seen : Seen) → seenThen ss seen .race ≡ cond (eqb (seen .race) 0) (linkOf (first racesAt ss)) (seen .race)
   unfolding seenOver weighedEntry first linkOf

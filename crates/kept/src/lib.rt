@@ -4,9 +4,8 @@
 // `empty_lists` sets up the lists, `access` brings one access in, and `clear` leaves the pieces zero.
 ghost use mathlib.Core.Path.{_≡_};
 ghost use mathlib.Core.Bool.{false, cond};
-ghost use Prim.Native.Nat.{_≤_, _<_, _+_, _-_};
+ghost use Prim.Native.Nat.{_≤_, _<_, _+_};
 ghost use lib.ListN.{length, set};
-ghost use Rattle.locks.specs.Sets.{within};
 ghost use Rattle.bags.specs.Runs.{bagsIn, Room as BagsRoom};
 ghost use Rattle.bags.specs.Ask.{saysParallel};
 ghost use Rattle.kept.specs.Rules.{dropped};
