@@ -89,7 +89,7 @@ module _ {A : Type 0} where
   in-either (b ∷ list) rest a (inr h) = ⊎-elim (λ (f : In a list). inl (inr f)) (λ (l : In a rest). inr l) (in-either list rest a h)
 
   -- Those to which a test says yes are no more than all, and fewer where it says no to one.
-  those-no-more : (test : A → Bool) (list : List A) → length (those test list) ≤ length list
+  pub those-no-more : (test : A → Bool) (list : List A) → length (those test list) ≤ length list
   unfolding those
   those-no-more test [] = zero-le
   those-no-more test (b ∷ list) =

@@ -1,11 +1,11 @@
 -- The pieces through a run: they hold the lists kept before each event. An access that is not refused leaves what the rules make of the list of its
 -- location, which is the list kept after it; and the answer is told by the two tests and the list. Assumes nothing.
-use Prim.Native.Nat.{ℕ, suc, _+_, _-_}
+use Prim.Native.Nat.{ℕ, zero, suc, _+_, _-_, _≤_, zero-le}
 use mathlib.Core.Path.{_≡_, refl, sym, ap, _∙_}
-use mathlib.Core.Bool.{Bool, true, false, cond}
+use mathlib.Core.Bool.{Bool, true, false, cond, not}
 use mathlib.Core.List.{List, [], _∷_, _++_}
 use native.Mathlib.Omega.{arith}
-use lib.Dec.{ltb}
+use lib.Dec.{eqb, ltb}
 use lib.ListN.{length, drop, replicate, length-append, length-drop, length-replicate}
 use lib.Seq.{drop-at}
 use borrow.Author.Tests.{ltb-true, ltb-false}
@@ -15,12 +15,12 @@ use Rattle.kept.specs.declared.Slots.{Slots}
 use Rattle.kept.specs.declared.Accessed.{Accessed}
 use Rattle.kept.specs.declared.Accessed.the-variants.{Done, InNoBag, Full}
 use Rattle.kept.specs.Lists.{any, first}
-use Rattle.kept.specs.Rules.{races, reported, named, after, changedAt, inAll}
+use Rattle.kept.specs.Rules.{races, reported, named, dropped, left, omits, added, after, changedAt, inAll}
 use Rattle.kept.specs.Theorem.{Run, kept, visited}
 use Rattle.kept.specs.Pieces.{pieceSize, cleared}
 use Rattle.kept.specs.Access.{parallelBy, inNoBag, nobodyOr, isNamed, codeOf, accessCode, accessed, slotsAfter}
 use Rattle.kept.specs.Holds.{HoldsFirst, HoldsOther, AccessIs, HoldsNext, ClearedRest, ClearedSame, RestKeptOn}
-use Rattle.kept.proofs.Lists.{either-way}
+use Rattle.kept.proofs.Lists.{either-way, those-no-more}
 use Rattle.kept.proofs.Sums.{sum-agree}
 use Rattle.kept.proofs.Meaning.{holds-empty, holds-access, rests-kept, code-told, done-told}
 
@@ -39,6 +39,24 @@ kept-after-access run k x is = rw is
 pub kept-after-other : (run : Run) (k x : ℕ) → run .accesses k ≡ false → kept run (suc k) x ≡ kept run k x
 unfolding kept
 kept-after-other run k x is = rw is
+
+-- The rules add one entry at most, so before event k a list has at most k.
+one-more-at-most : (parallel : Entry → Bool) (e : Entry) (list : List Entry) → length (after parallel e list) ≤ suc (length list)
+unfolding left added after
+one-more-at-most parallel e list =
+    let stay = those-no-more (λ (k : Entry). not (dropped parallel e k)) list in
+    let in-all = length-append (left parallel e list) (added parallel e list) in
+    either-way (any (omits parallel e) list)
+    (λ q. let none : length (added parallel e list) ≡ 0 = rw q refl in omega arith)
+    (λ q. let one : length (added parallel e list) ≡ 1 = rw q refl in omega arith)
+
+pub kept-at-most : (run : Run) (k x : ℕ) → length (kept run k x) ≤ k
+unfolding kept changedAt
+kept-at-most run zero x = zero-le
+kept-at-most run (suc k) x =
+    let before = kept-at-most run k x in
+    let more = one-more-at-most (run .parallel k) (run .entry k) (kept run k x) in
+    either-way (run .accesses k) (λ q. either-way (eqb x (run .location k)) (λ t. rw (q, t) (omega arith)) (λ t. rw (q, t) (omega arith))) (λ q. rw q (omega arith))
 
 -- An entry is named exactly if the access is reported.
 named-if-reported : (parallel : Entry → Bool) (e : Entry) (list : List Entry) → isNamed (nobodyOr (named parallel e list)) ≡ reported parallel e list

@@ -3,21 +3,19 @@
 
 use crate::access::Access;
 use crate::call::{call, examine, Examination, Outcome};
-use crate::codes::{Code, ACCEPTED, FROM_BYTES, IN_NO_BAG, MAIN_NOT_RETURNED};
+use crate::codes::{ACCEPTED, IN_NO_BAG, MAIN_NOT_RETURNED};
 use crate::generate::trace;
 use crate::hexadecimal;
 use crate::limits::LISTS;
 use crate::pairs;
-use std::collections::{BTreeMap, BTreeSet};
-
-/// From so many traces on every code has to have come up.
-pub const ENOUGH_FOR_EVERY_CODE: u64 = 20_000;
+use crate::tally::Tally;
+use std::collections::BTreeSet;
 
 /// What came up over all traces.
 #[derive(Default)]
 pub struct Summary {
     pub traces: u64,
-    pub codes: BTreeMap<Code, u64>,
+    pub codes: Tally,
     pub races: usize,
     pub visits: usize,
 }
@@ -37,25 +35,12 @@ pub fn run(seed: u64, count: u64) -> Result<Summary, String> {
             )
         })?;
         summary.traces += 1;
-        *summary.codes.entry(outcome.code).or_default() += 1;
+        summary.codes.count(outcome.code);
         summary.races += outcome.races;
         summary.visits += outcome.visits;
     }
-    every_code_came_up(&summary)?;
+    summary.codes.every_code_came_up(summary.traces)?;
     Ok(summary)
-}
-
-/// So that a family cannot be lost in silence.
-fn every_code_came_up(summary: &Summary) -> Result<(), String> {
-    let missing = FROM_BYTES
-        .iter()
-        .find(|code| !summary.codes.contains_key(code));
-    match missing {
-        Some(code) if summary.traces >= ENOUGH_FOR_EVERY_CODE => {
-            Err(format!("no trace of {} gave code {code}", summary.traces))
-        }
-        _ => Ok(()),
-    }
 }
 
 /// Everything that has to hold of one trace.
@@ -159,37 +144,19 @@ fn accepted_part_stands(trace: &[u8], found: &Examination) -> Result<(), String>
 
 /// The summary as one line.
 pub fn written(summary: &Summary) -> String {
-    let code = |(code, traces): (&Code, &u64)| format!("{code}:{traces}");
-    let codes: Vec<String> = summary.codes.iter().map(code).collect();
     let Summary {
         traces,
+        codes,
         races,
         visits,
-        ..
     } = summary;
-    format!(
-        "{traces} traces agree; codes {}; races {races}; visits {visits}",
-        codes.join(" ")
-    )
+    let codes = codes.written();
+    format!("{traces} traces agree; {codes}; races {races}; visits {visits}")
 }
 
 #[cfg(test)]
 mod tests {
     use super::*;
-
-    #[test]
-    fn a_missing_code_is_noticed_from_enough_traces_on() {
-        let mut summary = Summary {
-            traces: ENOUGH_FOR_EVERY_CODE,
-            ..Summary::default()
-        };
-        summary.codes = FROM_BYTES.iter().map(|code| (*code, 1)).collect();
-        assert!(every_code_came_up(&summary).is_ok());
-        summary.codes.remove(&13);
-        assert!(every_code_came_up(&summary).is_err());
-        summary.traces -= 1;
-        assert!(every_code_came_up(&summary).is_ok());
-    }
 
     #[test]
     fn a_wrong_examination_is_noticed() {

@@ -20,4 +20,5 @@ pub mod print;
 pub mod random;
 pub mod reading;
 pub mod serial;
+pub mod tally;
 pub mod vectors;

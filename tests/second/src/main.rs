@@ -99,11 +99,8 @@ fn run_compare(program: &str, file: &str, seed: u64, count: u64) -> Done {
             seed,
             count,
         };
-        let differences = compare::run(program, &traces)?;
-        if differences.is_empty() {
-            println!("{} traces compared, 0 differences", traces.in_all());
-            return Ok(());
-        }
-        Err(format!("{}\nthe outputs differ", differences.join("\n")))
+        let summary = compare::run(program, &traces)?;
+        println!("{}", compare::written(&summary));
+        Ok(())
     }))
 }

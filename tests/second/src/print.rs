@@ -3,18 +3,26 @@
 use crate::call::{call, Outcome};
 use crate::limits::{MOST_BYTES_TO_PRINT, MOST_RACE_LINES};
 
-/// "The program takes up to 65,536 bytes, prints at most 1,024 race lines, and
-/// for a longer input prints only `too long`."
+/// "The program takes up to 65,536 bytes": the outcome of an input, or none
+/// where the input is longer.
+pub fn outcome(input: &[u8]) -> Option<Outcome> {
+    (input.len() <= MOST_BYTES_TO_PRINT).then(|| call(input))
+}
+
 pub fn printed(input: &[u8]) -> String {
-    if input.len() > MOST_BYTES_TO_PRINT {
-        return String::from("too long\n");
-    }
-    printed_outcome(&call(input))
+    printed_outcome(&outcome(input))
+}
+
+/// "and for a longer input prints only `too long`."
+pub fn printed_outcome(outcome: &Option<Outcome>) -> String {
+    outcome
+        .as_ref()
+        .map_or_else(|| String::from("too long\n"), lines)
 }
 
 /// "The first line is the returned numbers by name. Each race line is location,
-/// earlier event, later event."
-pub fn printed_outcome(outcome: &Outcome) -> String {
+/// earlier event, later event." It "prints at most 1,024 race lines".
+fn lines(outcome: &Outcome) -> String {
     let Outcome {
         code,
         events,

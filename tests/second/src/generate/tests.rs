@@ -3,7 +3,7 @@
 use super::*;
 use crate::call::call;
 use crate::codes::{ACCEPTED, MAIN_NOT_RETURNED, TOO_MANY_ENTRIES, TOO_MANY_PROCEDURES};
-use crate::print::printed;
+use std::collections::BTreeSet;
 
 fn made(name: &str, seed: u64) -> Vec<u8> {
     let family = FAMILIES.iter().find(|family| family.name == name);
@@ -79,18 +79,20 @@ fn the_families_near_a_limit_come_to_lie_on_both_sides() {
     }
     let (with, without) = with_and_without("procedures", 20, TOO_MANY_PROCEDURES);
     assert!(with > 0 && without > 0, "{with} {without}");
-    let too_long = (0..20)
-        .filter(|s| printed(&made("lengths", *s)) == "too long\n")
-        .count();
-    assert!((1..20).contains(&too_long), "{too_long}");
-    let races: Vec<usize> = (0..40)
+}
+
+#[test]
+fn lengths_and_races_come_to_lie_right_beside_their_limits() {
+    let lengths: BTreeSet<usize> = (0..40).map(|seed| made("lengths", seed).len()).collect();
+    for length in [65_536, 65_537] {
+        assert!(lengths.contains(&length), "{lengths:?}");
+    }
+    let races: BTreeSet<usize> = (0..40)
         .map(|seed| call(&made("races", seed)).races)
         .collect();
-    assert!(races.iter().any(|races| *races > 1_024), "{races:?}");
-    assert!(
-        races.iter().any(|races| (1..=1_024).contains(races)),
-        "{races:?}"
-    );
+    for number in [1_023, 1_024, 1_025] {
+        assert!(races.contains(&number), "{races:?}");
+    }
 }
 
 #[test]

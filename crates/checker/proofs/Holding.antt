@@ -1,0 +1,32 @@
+-- The locks held never have the read mark: taking and releasing a lock leave it as it was, and at first nothing is held. So the lock sets of two accesses
+-- have nothing in common exactly if no lock is shared and not both read. Assumes nothing.
+use Prim.Native.Nat.{ℕ, zero, suc}
+use mathlib.Core.Path.{_≡_, refl, _∙_}
+use mathlib.Core.Bool.{Bool, true, false, cond, not, _&&_}
+use Rattle.trace.specs.declared.Event.{Event}
+use Rattle.trace.specs.Kinds.{isRead}
+use Rattle.locks.specs.Sets.{mark, isIn, taken, released, apart}
+use Rattle.locks.proofs.Laws.{none-mark, taken-mark, released-mark, apart-of-accesses}
+use Rattle.checker.specs.Events.{isLocking, isUnlocking, heldAfter, held, entryOf}
+
+-- No event adds the mark.
+mark-as-before : (e : Event) (set : ℕ) → isIn mark (heldAfter e set) ≡ isIn mark set
+unfolding heldAfter
+mark-as-before e set = by-kind (isLocking e) (isUnlocking e)
+  where
+    by-kind : (takes releases : Bool) → isIn mark (cond takes (taken (e .operand) set) (cond releases (released (e .operand) set) set)) ≡ isIn mark set
+    by-kind true releases = taken-mark (e .operand) set
+    by-kind false true = released-mark (e .operand) set
+    by-kind false false = refl
+
+module _ (t : ℕ → Event) where
+  pub held-has-no-mark : (k : ℕ) → isIn mark (held t k) ≡ false
+  unfolding held
+  held-has-no-mark zero = none-mark
+  held-has-no-mark (suc k) = mark-as-before (t k) (held t k) ∙ held-has-no-mark k
+
+  -- What the lock sets of two accesses have in common is a lock, or the mark where both read.
+  pub sets-apart : (i j : ℕ)
+      → apart (entryOf t i .locks) (entryOf t j .locks) ≡ (apart (held t i) (held t j) && not (isRead (t i) && isRead (t j)))
+  unfolding entryOf
+  sets-apart i j = apart-of-accesses (isRead (t i)) (isRead (t j)) (held t i) (held t j) (held-has-no-mark i) (held-has-no-mark j)

@@ -1,0 +1,14 @@
+pub mod Stopping
+pub mod Demand1
+pub mod Holding
+pub mod Shortened
+pub mod Finding
+pub mod Demands
+pub mod Writing
+pub mod Bringing
+pub mod Stepping
+pub mod Going
+pub mod Meeting
+pub mod NoTwoOutcomes
+pub mod Table
+pub mod Impostors

@@ -1,0 +1,9 @@
+pub mod Events
+pub mod Rules
+pub mod Report
+pub mod Call
+pub mod Demands
+pub mod Contract
+pub mod Impostors
+pub mod Table
+pub mod Steps

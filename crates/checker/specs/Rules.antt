@@ -1,0 +1,74 @@
+-- The rules: which code an event of a trace is refused with, and where the call stops.
+use Prim.Native.Nat.{ℕ, zero, suc}
+use mathlib.Core.Bool.{Bool, true, false, cond, not, _&&_}
+use mathlib.Core.List.{List, [], _∷_}
+use lib.Dec.{leb, ltb}
+use lib.ListN.{length}
+use Rattle.trace.specs.declared.Event.{Event}
+use Rattle.trace.specs.declared.Reading.{Reading}
+use Rattle.trace.specs.declared.Reading.the-variants.{Found, Refused}
+use Rattle.trace.specs.Kinds.{lawfulHolding, isAccess}
+use Rattle.trace.specs.Events.{codeOf, readingAt}
+use Rattle.locks.specs.Sets.{isIn, isEmpty}
+use Rattle.bags.specs.Parallel.{begun, mainOpen}
+use Rattle.bags.specs.Bags.{bags}
+use Rattle.bags.specs.Steps.{mostBegun}
+use Rattle.kept.specs.Lists.{any}
+use Rattle.kept.specs.Rules.{inAll}
+use Rattle.kept.specs.Theorem.{kept, visited}
+use Rattle.kept.specs.Pieces.{pieceSize}
+use Rattle.kept.specs.Access.{inNoBag}
+use Rattle.checker.specs.Events.{place, events, isSpawn, isLocking, isUnlocking, acts, held, run}
+
+-- An event is accepted, or the call stops there with a code: that of the first rule that is broken.
+pub data Verdict : Type 0 where
+  goes-on : Verdict
+  stops : ℕ → Verdict
+
+unfoldable pub firstBroken : List (Bool × ℕ) → Verdict
+firstBroken [] = goes-on
+firstBroken (rule ∷ rules) = cond (rule .0) (stops (rule .1)) (firstBroken rules)
+
+-- The rules of codes 7 to 13, in the order in which they are tested, for event k: an event after main's return; spawn, return or sync with a lock
+-- held; lock already held; unlock of a lock not held; spawn when 4,096 procedures have begun, main counted; an entry kept for the accessed location has
+-- its procedure in no bag; after the rules above more than 4,096 entries would be kept in all (in the lists of all 4,096 locations).
+unfoldable pub rules : (ℕ → Event) → ℕ → List (Bool × ℕ)
+rules t k =
+    (not (mainOpen (acts t) k), 7) ∷
+    (not (lawfulHolding (t k)) && not (isEmpty (held t k)), 8) ∷
+    (isLocking (t k) && isIn (t k .operand) (held t k), 9) ∷
+    (isUnlocking (t k) && not (isIn (t k .operand) (held t k)), 10) ∷
+    (isSpawn (t k) && leb mostBegun (begun (acts t) k), 11) ∷
+    (isAccess (t k) && any (inNoBag (bags (acts t) k)) (visited (run t) k), 12) ∷
+    (isAccess (t k) && ltb pieceSize (inAll pieceSize (kept (run t) (suc k))), 13) ∷ []
+
+-- What was read at the place of event k: codes 3 to 6, or an event for the rules above.
+unfoldable pub judged : (ℕ → Event) → ℕ → Reading → Verdict
+judged t k (Refused why at) = stops (codeOf why)
+judged t k (Found e next) = firstBroken (rules t k)
+
+-- Code 0: every byte accepted and main has returned. Code 14: the bytes end between events and main has not returned.
+unfoldable pub ended : (ℕ → Event) → ℕ → Verdict
+ended t k = stops (cond (mainOpen (acts t) k) 14 0)
+
+-- What is said at event k of a trace.
+unfoldable pub verdict : List ℕ → ℕ → Verdict
+verdict trace k =
+    cond (leb (length trace) (place trace k)) (ended (events trace) k) (judged (events trace) k (readingAt trace (place trace k)))
+
+-- The first event, from k on, that is not accepted; n steps are enough where n bytes are left, as an event has a byte at least.
+abbrev pub accepts : Verdict → Bool
+accepts goes-on = true
+accepts (stops c) = false
+
+unfoldable pub stopFrom : List ℕ → ℕ → ℕ → ℕ
+stopFrom trace zero k = k
+stopFrom trace (suc n) k = cond (accepts (verdict trace k)) (stopFrom trace n (suc k)) k
+
+unfoldable pub stop : List ℕ → ℕ
+stop trace = stopFrom trace (length trace) 0
+
+-- The code there.
+abbrev pub codeIn : Verdict → ℕ
+codeIn goes-on = 14
+codeIn (stops c) = c

@@ -1,0 +1,157 @@
+-- What the parts of the call do: the state before event k, and what one step makes of it. A reader who wants only what `check` promises can skip this
+-- file.
+use Prim.Native.Nat.{ℕ, suc, _+_, _*_, _≤_, _<_, max}
+use mathlib.Core.Path.{_≡_}
+use mathlib.Core.Bool.{Bool, cond, not, _&&_}
+use mathlib.Core.List.{List, [], _∷_}
+use lib.Dec.{leb, ltb}
+use lib.ListN.{length, set}
+use Rattle.trace.specs.declared.Event.{Event}
+use Rattle.trace.specs.declared.Reading.the-variants.{Found}
+use Rattle.trace.specs.Kinds.{lawfulHolding}
+use Rattle.trace.specs.Events.{readingAt}
+use Rattle.locks.specs.declared.Held.{Held}
+use Rattle.locks.specs.Sets.{isIn, isEmpty, count}
+use Rattle.bags.specs.declared.ask.Pairs.{Pairs}
+use Rattle.bags.specs.Runs.{Room as BagsRoom}
+use Rattle.bags.specs.Holds.{Holds as BagsHold}
+use Rattle.kept.specs.declared.Entry.{Entry}
+use Rattle.kept.specs.declared.Slots.{Slots}
+use Rattle.kept.specs.declared.Named.{Named}
+use Rattle.kept.specs.declared.Named.the-variants.{Nobody, With}
+use Rattle.kept.specs.Theorem.{kept}
+use Rattle.kept.specs.Pieces.{Pieces, pieceSize, RestKept, Room as ListsRoom}
+use Rattle.kept.specs.Holds.{Holds as ListsHold, RestsKept}
+use Rattle.checker.specs.declared.Answer.{Answer}
+use Rattle.checker.specs.declared.State.{State}
+use Rattle.checker.specs.declared.Stepped.{Stepped}
+use Rattle.checker.specs.declared.Stepped.the-variants.{Next, Stop}
+use Rattle.checker.specs.Events.{place, events, isLocking, isUnlocking, acts, held, most, run, visits}
+use Rattle.checker.specs.Rules.{goes-on, stops, verdict}
+use Rattle.checker.specs.Report.{Race, found, laid}
+use Rattle.checker.specs.Call.{mostBytes}
+
+-- Every event before n is accepted.
+abbrev pub AcceptedBefore : List ℕ → ℕ → Type 0
+AcceptedBefore trace n = (k : ℕ) → k < n → verdict trace k ≡ goes-on
+
+-- The state and the pieces as they stand before event k: each part is what the definitions say.
+pub record Stands (trace : List ℕ) (k : ℕ) (s : State) (p : Pieces) (starts joins : List ℕ) : Type 0 where
+  pub accepted-before : AcceptedBefore trace k
+  pub at-place : s .at ≡ place trace k
+  pub held-told : s .held .bits ≡ held (events trace) k
+  pub bags-held : BagsHold (acts (events trace)) k starts joins (s .pairs)
+  pub lists-held : ListsHold (kept (run (events trace)) k) p (s .slots)
+  pub events-told : s .counts .events ≡ k
+  pub races-told : s .counts .races ≡ length (found (run (events trace)) k)
+  pub visits-told : s .counts .visits ≡ visits (events trace) k
+  pub most-told : s .counts .most ≡ most (events trace) k
+
+-- What lies past the used part of each piece is kept.
+pub record AllRestsKept (p : Pieces) (starts joins : List ℕ) (p′ : Pieces) (starts′ joins′ : List ℕ) : Type 0 where
+  pub lists-rest : RestsKept p p′
+  pub starts-rest : RestKept pieceSize starts starts′
+  pub joins-rest : RestKept pieceSize joins joins′
+
+-- The code, of 7 to 10, that an event is refused with, or 0.
+abbrev pub refusal : Event → ℕ → Bool → ℕ
+refusal e set running =
+    cond (not running) 7
+    (cond (not (lawfulHolding e) && not (isEmpty set)) 8
+    (cond (isLocking e && isIn (e .operand) set) 9
+    (cond (isUnlocking e && not (isIn (e .operand) set)) 10 0)))
+
+-- An event of the trace comes next, and codes 3 to 10 let it pass.
+pub record ComesNext (trace : List ℕ) (s : State) (p : Pieces) (starts joins : List ℕ) (e : Event) (next : ℕ) : Type 0 where
+  pub stands : Stands trace (s .counts .events) s p starts joins
+  pub bytes-left : s .at < length trace
+  pub read : readingAt trace (s .at) ≡ Found e next
+  pub passes : refusal e (s .held .bits) (ltb 0 (s .pairs .count)) ≡ 0
+
+-- More visits than this are never counted.
+abbrev pub mostVisits : ℕ
+mostVisits = 281474976710656
+
+-- The numbers that are counted stay small, and the pieces are as the layers below ask for.
+pub record Safe (s : State) (p : Pieces) (starts joins : List ℕ) : Type 0 where
+  pub bags-room : BagsRoom starts joins (s .pairs)
+  pub lists-room : ListsRoom p (s .slots)
+  pub events-small : s .counts .events < mostBytes
+  pub races-small : s .counts .races ≤ s .counts .events
+  pub visits-small : s .counts .visits ≤ mostVisits
+
+-- The event is accepted, and everything is brought forward; or it is refused with a code, and what was reported stands.
+module _ (trace : List ℕ) (k : ℕ) (report : List ℕ) (p : Pieces) (starts joins report′ : List ℕ) (p′ : Pieces) (starts′ joins′ : List ℕ) where
+  pub record GoesOn (s′ : State) : Type 0 where
+    pub accepted : verdict trace k ≡ goes-on
+    pub stands : Stands trace (suc k) s′ p′ starts′ joins′
+    pub reported : (report₀ : List ℕ) → report ≡ laid (found (run (events trace)) k) report₀
+        → report′ ≡ laid (found (run (events trace)) (suc k)) report₀
+    pub rests-kept : AllRestsKept p starts joins p′ starts′ joins′
+
+  pub record IsRefused (c : ℕ) : Type 0 where
+    pub refused : verdict trace k ≡ stops c
+    pub report-same : report′ ≡ report
+    pub rests-kept : AllRestsKept p starts joins p′ starts′ joins′
+
+  abbrev pub AfterStep : Stepped → Type 0
+  AfterStep (Next s′) = GoesOn s′
+  AfterStep (Stop c) = IsRefused c
+
+-- The state after an event, the place of the next one being `next`: the bags changed; the locks held changed; or an access counted.
+abbrev pub withBags : State → ℕ → Pairs → State
+withBags s next pairs = record {
+  at = next;
+  held = s .held;
+  pairs = pairs;
+  slots = s .slots;
+  counts = record { events = s .counts .events + 1; races = s .counts .races; visits = s .counts .visits; most = s .counts .most };
+}
+
+abbrev pub withHeld : State → ℕ → Held → State
+withHeld s next set = record {
+  at = next;
+  held = set;
+  pairs = s .pairs;
+  slots = s .slots;
+  counts = record {
+    events = s .counts .events + 1;
+    races = s .counts .races;
+    visits = s .counts .visits;
+    most = max (s .counts .most) (count (set .bits));
+  };
+}
+
+abbrev pub withAccess : State → ℕ → Slots → ℕ → ℕ → State
+withAccess s next slots races visits = record {
+  at = next;
+  held = s .held;
+  pairs = s .pairs;
+  slots = slots;
+  counts = record { events = s .counts .events + 1; races = races; visits = s .counts .visits + visits; most = s .counts .most };
+}
+
+-- The race that an access is reported with, if an entry is named.
+abbrev pub raceNamed : ℕ → Entry → Named → List Race
+raceNamed x e Nobody = []
+raceNamed x e (With k) = record { location = x; earlier = k; later = e } ∷ []
+
+-- An entry of the report, written after n others where it fits; and races one after the other.
+unfoldable pub writtenAt : ℕ → ℕ → ℕ → ℕ → List ℕ → List ℕ
+writtenAt n location earlier later report =
+    cond (leb (n * 3 + 3) (length report)) (set (set (set report (n * 3) location) (n * 3 + 1) earlier) (n * 3 + 2) later) report
+
+unfoldable pub written : ℕ → List Race → List ℕ → List ℕ
+written n [] report = report
+written n (r ∷ rs) report = written (suc n) rs (writtenAt n (r .location) (r .earlier .event .0) (r .later .event .0) report)
+
+-- The answer with this code, the counts being as they stand.
+abbrev pub answerWith : ℕ → State → Answer
+answerWith c s = record {
+  code = c;
+  events = s .counts .events;
+  offset = s .at;
+  races = s .counts .races;
+  visits = s .counts .visits;
+  most = s .counts .most;
+}

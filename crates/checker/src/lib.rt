@@ -1,0 +1,525 @@
+// The race checker: one call that reads a trace, names every access that races with an earlier one, and leaves the lent working
+// room zero.
+//
+// `check` is the call. It tests what was lent, and then goes through the trace with `step`, which brings one event in.
+ghost use mathlib.Core.Path.{_≡_};
+ghost use mathlib.Core.Bool.{true, false, cond};
+ghost use mathlib.Core.List.{List};
+ghost use Prim.Native.Nat.{ℕ, _+_, _≤_, _<_, max};
+ghost use lib.Dec.{ltb};
+ghost use lib.ListN.{length};
+ghost use Rattle.trace.specs.Kinds.{isAccess, location};
+ghost use Rattle.bags.specs.Runs.{Room as BagsRoom};
+ghost use Rattle.kept.specs.Pieces.{Pieces, pieceSize, pieces, Fits};
+ghost use Rattle.checker.specs.Events.{events as eventsOf, run};
+ghost use Rattle.checker.specs.Rules.{stop};
+ghost use Rattle.checker.specs.Report.{found, laid};
+ghost use Rattle.checker.specs.Call.{room, lent, left, anyShort, mostBytes, codeAlone, answer};
+ghost use Rattle.checker.specs.Contract.{Contract};
+ghost use Rattle.checker.specs.Steps.{refusal, Stands, ComesNext, Safe, AfterStep, withBags, withHeld, withAccess, raceNamed, writtenAt, written, mostVisits, AllRestsKept, answerWith};
+use bags::Spawned;
+use bags::ask::Pairs;
+use bags::begin;
+use bags::main_is_open;
+use bags::returns;
+use bags::running;
+use bags::spawn;
+use bags::sync;
+use kept::Accessed;
+use kept::Entry;
+use kept::Named;
+use kept::Slots;
+use kept::access;
+use kept::clear;
+use kept::clear_numbers;
+use kept::empty_lists;
+use locks::Held;
+use trace::Event;
+use trace::EventNumber;
+use trace::Reading;
+use trace::read_event;
+
+// The size of each piece of working room, in numbers.
+pub const PIECE: usize = 4096;
+
+// The longest trace, in bytes.
+pub const MOST_BYTES: usize = 16777216;
+
+// The numbers of an entry of the report: location, earlier event, later event.
+const NUMBERS: usize = 3;
+
+// What the call returns: the code, the events accepted, the first byte not accepted (or the length), the accesses reported, the
+// visits in all, and the most locks held at one moment.
+pub struct Answer {
+    pub code: u32,
+    pub events: u32,
+    pub offset: usize,
+    pub races: u32,
+    pub visits: u64,
+    pub most: u32,
+}
+
+// The running counts: events accepted, accesses reported, visits, and the most locks held at one moment.
+struct Counts {
+    events: u32,
+    races: u32,
+    visits: u64,
+    most: u32,
+}
+
+// What is brought forward from event to event beside the lent pieces: the place of the next event, the locks held, where the bags and
+// the lists stand in their pieces, and the counts.
+struct State {
+    at: usize,
+    held: Held,
+    pairs: Pairs,
+    slots: Slots,
+    counts: Counts,
+}
+
+// What an event gives: the state after it, or the code that it is refused with.
+enum Stepped {
+    Next(State),
+    Stop(u32),
+}
+
+// The kinds that are no access.
+const SPAWN: u32 = 0;
+
+const RETURN: u32 = 1;
+
+const SYNC: u32 = 2;
+
+const LOCK: u32 = 3;
+
+const UNLOCK: u32 = 4;
+
+impl State {
+    // The answer with this code, the counts being as they stand.
+    fn answer(self, code: u32) -> Answer
+        ensures { λ r. ⌜ r ≡ answerWith code self ⌝ }
+    {
+        let counts = self.counts;
+        Answer {
+            code: code,
+            events: counts.events,
+            offset: self.at,
+            races: counts.races,
+            visits: counts.visits,
+            most: counts.most,
+        }
+    }
+
+    // The state after an event that changed the bags.
+    fn with_bags(self, next: usize, pairs: Pairs) -> State
+        requires { ⌜ self .counts .events < mostBytes ⌝ }
+        ensures { λ r. ⌜ r ≡ withBags self next pairs ⌝ }
+    {
+        let held = self.held;
+        let slots = self.slots;
+        let counts = self.counts;
+        State {
+            at: next,
+            held: held,
+            pairs: pairs,
+            slots: slots,
+            counts: Counts {
+                events: counts.events + 1,
+                races: counts.races,
+                visits: counts.visits,
+                most: counts.most,
+            },
+        }
+    }
+
+    // The state after a lock was taken or released.
+    fn with_held(self, next: usize, held: Held) -> State
+        requires { ⌜ self .counts .events < mostBytes ⌝ }
+        ensures { λ r. ⌜ r ≡ withHeld self next held ⌝ }
+    {
+        let pairs = self.pairs;
+        let slots = self.slots;
+        let counts = self.counts;
+        State {
+            at: next,
+            held: held,
+            pairs: pairs,
+            slots: slots,
+            counts: Counts {
+                events: counts.events + 1,
+                races: counts.races,
+                visits: counts.visits,
+                most: larger(counts.most, held.count()),
+            },
+        }
+    }
+
+    // The state after an access, which made so many visits.
+    fn with_access(self, next: usize, slots: Slots, races: u32, visits: u32) -> State
+        requires { ⌜ self .counts .events < mostBytes ⌝ }
+        requires { ⌜ self .counts .visits ≤ mostVisits ⌝ }
+        ensures { λ r. ⌜ r ≡ withAccess self next slots races visits ⌝ }
+    {
+        let held = self.held;
+        let pairs = self.pairs;
+        let counts = self.counts;
+        State {
+            at: next,
+            held: held,
+            pairs: pairs,
+            slots: slots,
+            counts: Counts {
+                events: counts.events + 1,
+                races: races,
+                visits: counts.visits + visits as u64,
+                most: counts.most,
+            },
+        }
+    }
+}
+
+// The larger of two numbers.
+fn larger(a: u32, b: u32) -> u32
+    ensures { λ r. ⌜ r ≡ max a b ⌝ }
+{
+    if a < b { b } else { a }
+}
+
+// The code, of 7 to 10, that an event is refused with, or 0.
+fn refusal(event: Event, held: Held, running: bool) -> u32
+    ensures { λ r. ⌜ r ≡ refusal event (held .bits) running ⌝ }
+{
+    let kind = event.kind;
+    let lock = event.operand;
+    let unlawful = !event.lawful_holding() & !held.is_empty();
+    let again = (kind == LOCK) & held.has(lock);
+    let missing = (kind == UNLOCK) & !held.has(lock);
+    pick(
+        !running,
+        7,
+        pick(unlawful, 8, pick(again, 9, pick(missing, 10, 0))),
+    )
+}
+
+// The first number if so, else the second.
+fn pick(so: bool, first: u32, second: u32) -> u32
+    ensures { λ r. ⌜ r ≡ cond so first second ⌝ }
+{
+    if so { first } else { second }
+}
+
+// An event that is no access, and that codes 7 to 10 let pass.
+fn follow(state: State, event: Event, next: usize, starts: &mut [u32], joins: &mut [u32]) -> Stepped
+    requires { ⌜ BagsRoom (now starts) (now joins) (state .pairs) ⌝ }
+    requires { ⌜ state .counts .events < mostBytes ⌝ }
+    requires { ⌜ isAccess event ≡ false ⌝ }
+    ensures { λ r.
+        ⌜ ((trace report : List ℕ) (p : Pieces) → ComesNext trace state p (now (starts .entry)) (now (joins .entry)) event next
+        → AfterStep trace (state .counts .events) report p (now (starts .entry)) (now (joins .entry)) report p (now (starts .exit)) (now (joins .exit)) r) ⌝ }
+{
+    let kind = event.kind;
+    let lock = event.operand;
+    let held = state.held;
+    let pairs = state.pairs;
+    if kind == SPAWN {
+        return match spawn(pairs, starts, joins) {
+            Spawned::Begun(then) => Stepped::Next(state.with_bags(next, then)),
+            Spawned::Full => Stepped::Stop(11),
+        };
+    }
+    if kind == RETURN {
+        return Stepped::Next(state.with_bags(next, returns(pairs)));
+    }
+    if kind == SYNC {
+        sync(pairs, joins);
+        return Stepped::Next(state.with_bags(next, pairs));
+    }
+    if kind == LOCK {
+        return Stepped::Next(state.with_held(next, held.take(lock)));
+    }
+    Stepped::Next(state.with_held(next, held.release(lock)))
+}
+
+// An access that codes 7 to 10 let pass.
+fn reach(
+    state: State,
+    event: Event,
+    next: usize,
+    report: &mut [u32],
+    heads: &mut [u32],
+    links: &mut [u32],
+    events: &mut [u32],
+    procedures: &mut [u32],
+    sets: &mut [u64],
+    starts: &[u32],
+    joins: &[u32],
+) -> Stepped
+    requires { ⌜ Safe state (pieces (now heads) (now links) (now events) (now procedures) (now sets)) (now starts) (now joins) ⌝ }
+    requires { ⌜ isAccess event ≡ true ⌝ }
+    requires { ⌜ location event < pieceSize ⌝ }
+    ensures { λ r.
+        ⌜ ((trace : List ℕ)
+        → ComesNext trace state (pieces (now (heads .entry)) (now (links .entry)) (now (events .entry)) (now (procedures .entry)) (now (sets .entry)))
+        (now (starts .entry)) (now (joins .entry)) event next
+        → AfterStep trace (state .counts .events) (now (report .entry))
+        (pieces (now (heads .entry)) (now (links .entry)) (now (events .entry)) (now (procedures .entry)) (now (sets .entry)))
+        (now (starts .entry)) (now (joins .entry)) (now (report .exit))
+        (pieces (now (heads .exit)) (now (links .exit)) (now (events .exit)) (now (procedures .exit)) (now (sets .exit)))
+        (now (starts .entry)) (now (joins .entry)) r) ⌝ }
+{
+    let held = state.held;
+    let pairs = state.pairs;
+    let slots = state.slots;
+    let counts = state.counts;
+    let location = event.location();
+    let entry = Entry {
+        event: EventNumber(counts.events),
+        procedure: running(pairs, starts),
+        locks: held.set_of_access(event.is_read()),
+    };
+    match access(
+        heads,
+        links,
+        events,
+        procedures,
+        sets,
+        slots,
+        location,
+        entry,
+        pairs,
+        starts,
+        joins,
+    ) {
+        Accessed::Done(then, visits, race) => {
+            let races = note(report, counts.races, location, entry, race);
+            Stepped::Next(state.with_access(next, then, races, visits))
+        }
+        Accessed::InNoBag => Stepped::Stop(12),
+        Accessed::Full => Stepped::Stop(13),
+    }
+}
+
+// The access is reported if an entry is named that it races with. Gives how many are reported then.
+fn note(report: &mut [u32], races: u32, location: u32, entry: Entry, race: Named) -> u32
+    requires { ⌜ races < mostBytes ⌝ }
+    ensures result { λ r. ⌜ r ≡ races + length (raceNamed location entry race) ⌝ }
+    ensures report { λ _. ⌜ now (report .exit) ≡ written races (raceNamed location entry race) (now (report .entry)) ⌝ }
+{
+    match race {
+        Named::Nobody => races,
+        Named::With(earlier) => {
+            write(report, races, location, earlier.event, entry.event);
+            races + 1
+        }
+    }
+}
+
+// An entry of the report, after so many others, where it fits.
+fn write(report: &mut [u32], races: u32, location: u32, earlier: EventNumber, later: EventNumber)
+    requires { ⌜ races < mostBytes ⌝ }
+    ensures { λ _. ⌜ now (report .exit) ≡ writtenAt races location (earlier .0) (later .0) (now (report .entry)) ⌝ }
+{
+    let at = races as usize * NUMBERS;
+    if at + NUMBERS <= report.len() {
+        report[at] = location;
+        report[at + 1] = earlier.0;
+        report[at + 2] = later.0;
+    }
+}
+
+// One event: it is read, tested against the rules, and brought in.
+fn step(
+    trace: &[u8],
+    state: State,
+    report: &mut [u32],
+    heads: &mut [u32],
+    links: &mut [u32],
+    events: &mut [u32],
+    procedures: &mut [u32],
+    sets: &mut [u64],
+    starts: &mut [u32],
+    joins: &mut [u32],
+) -> Stepped
+    requires { ⌜ Stands (now trace) (state .counts .events) state (pieces (now heads) (now links) (now events) (now procedures) (now sets))
+        (now starts) (now joins) ⌝ }
+    requires { ⌜ state .at < length (now trace) ⌝ }
+    requires { ⌜ length (now trace) ≤ mostBytes ⌝ }
+    ensures { λ r.
+        ⌜ AfterStep (now (trace .entry)) (state .counts .events) (now (report .entry))
+        (pieces (now (heads .entry)) (now (links .entry)) (now (events .entry)) (now (procedures .entry)) (now (sets .entry)))
+        (now (starts .entry)) (now (joins .entry)) (now (report .exit))
+        (pieces (now (heads .exit)) (now (links .exit)) (now (events .exit)) (now (procedures .exit)) (now (sets .exit)))
+        (now (starts .exit)) (now (joins .exit)) r ⌝ }
+{
+    let held = state.held;
+    let pairs = state.pairs;
+    match read_event(trace, state.at) {
+        Reading::Refused(why, _) => Stepped::Stop(why.code()),
+        Reading::Found(event, next) => {
+            let code = refusal(event, held, main_is_open(pairs));
+            if code != 0 {
+                return Stepped::Stop(code);
+            }
+            if event.is_access() {
+                return reach(
+                    state,
+                    event,
+                    next,
+                    report,
+                    heads,
+                    links,
+                    events,
+                    procedures,
+                    sets,
+                    starts,
+                    joins,
+                );
+            }
+            follow(state, event, next, starts, joins)
+        }
+    }
+}
+
+// Goes through a trace that may be read, in room that is long enough.
+fn examine(
+    trace: &[u8],
+    report: &mut [u32],
+    heads: &mut [u32],
+    links: &mut [u32],
+    events: &mut [u32],
+    procedures: &mut [u32],
+    sets: &mut [u64],
+    starts: &mut [u32],
+    joins: &mut [u32],
+) -> Answer
+    requires { ⌜ Fits (pieces (now heads) (now links) (now events) (now procedures) (now sets)) ⌝ }
+    requires { ⌜ pieceSize ≤ length (now starts) ⌝ }
+    requires { ⌜ pieceSize ≤ length (now joins) ⌝ }
+    requires { ⌜ length (now trace) ≤ mostBytes ⌝ }
+    ensures result { λ r. ⌜ r ≡ answer (now (trace .entry)) ⌝ }
+    ensures report { λ _.
+        ⌜ now (report .exit) ≡ laid (found (run (eventsOf (now (trace .entry)))) (stop (now (trace .entry)))) (now (report .entry)) ⌝ }
+    ensures rests { λ _.
+        ⌜ AllRestsKept (pieces (now (heads .entry)) (now (links .entry)) (now (events .entry)) (now (procedures .entry)) (now (sets .entry)))
+        (now (starts .entry)) (now (joins .entry))
+        (pieces (now (heads .exit)) (now (links .exit)) (now (events .exit)) (now (procedures .exit)) (now (sets .exit)))
+        (now (starts .exit)) (now (joins .exit)) ⌝ }
+{
+    let mut state = State {
+        at: 0,
+        held: Held::none(),
+        pairs: begin(starts, joins),
+        slots: empty_lists(heads),
+        counts: Counts {
+            events: 0,
+            races: 0,
+            visits: 0,
+            most: 0,
+        },
+    };
+    while state.at < trace.len() {
+        match step(
+            trace,
+            state,
+            report,
+            heads,
+            links,
+            events,
+            procedures,
+            sets,
+            starts,
+            joins,
+        ) {
+            Stepped::Next(then) => {
+                state = then;
+            }
+            Stepped::Stop(code) => {
+                return state.answer(code);
+            }
+        }
+    }
+    let pairs = state.pairs;
+    state.answer(pick(main_is_open(pairs), 14, 0))
+}
+
+// Is a piece of working room too short?
+fn is_short(
+    heads: &[u32],
+    links: &[u32],
+    events: &[u32],
+    procedures: &[u32],
+    sets: &[u64],
+    starts: &[u32],
+    joins: &[u32],
+) -> bool
+    ensures { λ r.
+        ⌜ r ≡ anyShort (room (now (heads .entry)) (now (links .entry)) (now (events .entry)) (now (procedures .entry)) (now (sets .entry))
+        (now (starts .entry)) (now (joins .entry))) ⌝ }
+{
+    (heads.len() < PIECE)
+        | (links.len() < PIECE)
+        | (events.len() < PIECE)
+        | (procedures.len() < PIECE)
+        | (sets.len() < PIECE)
+        | (starts.len() < PIECE)
+        | (joins.len() < PIECE)
+}
+
+// A refusal before anything is read: all other numbers are 0.
+fn refuse(code: u32) -> Answer
+    ensures { λ r. ⌜ r ≡ codeAlone code ⌝ }
+{
+    Answer {
+        code: code,
+        events: 0,
+        offset: 0,
+        races: 0,
+        visits: 0,
+        most: 0,
+    }
+}
+
+// The call: reads a trace, reports the races in it, and returns the code and the counts. Any bytes, any lengths, and whatever the
+// room holds.
+pub fn check(
+    trace: &[u8],
+    report: &mut [u32],
+    heads: &mut [u32],
+    links: &mut [u32],
+    events: &mut [u32],
+    procedures: &mut [u32],
+    sets: &mut [u64],
+    starts: &mut [u32],
+    joins: &mut [u32],
+) -> Answer
+    ensures contract { λ r.
+        ⌜ Contract
+        (lent (now (trace .entry)) (now (report .entry))
+        (room (now (heads .entry)) (now (links .entry)) (now (events .entry)) (now (procedures .entry)) (now (sets .entry)) (now (starts .entry))
+        (now (joins .entry))))
+        (left r (now (report .exit))
+        (room (now (heads .exit)) (now (links .exit)) (now (events .exit)) (now (procedures .exit)) (now (sets .exit)) (now (starts .exit))
+        (now (joins .exit)))) ⌝ }
+{
+    if is_short(heads, links, events, procedures, sets, starts, joins) {
+        return refuse(1);
+    }
+    if MOST_BYTES < trace.len() {
+        return refuse(2);
+    }
+    let answer = examine(
+        trace,
+        report,
+        heads,
+        links,
+        events,
+        procedures,
+        sets,
+        starts,
+        joins,
+    );
+    clear(heads, links, events, procedures, sets);
+    clear_numbers(starts);
+    clear_numbers(joins);
+    answer
+}
