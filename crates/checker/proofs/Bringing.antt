@@ -22,11 +22,10 @@ use Rattle.bags.specs.declared.Spawned.{Spawned}
 use Rattle.bags.specs.declared.Spawned.the-variants.{Begun, Full as AllBegun}
 use Rattle.bags.specs.declared.ask.Pairs.{Pairs}
 use Rattle.bags.specs.declared.ask.ProcedureNumber.{ProcedureNumber}
-use Rattle.bags.specs.Parallel.{Act, spawn, return, sync, other, begun, mainOpen, maker}
+use Rattle.bags.specs.Parallel.{Act, spawn, return, sync, other, begun, maker}
 use Rattle.bags.specs.Bags.{bags}
 use Rattle.bags.specs.Runs.{bagsIn}
 use Rattle.bags.specs.Steps.{mostBegun, runner, Carries, AfterSpawn}
-use Rattle.bags.specs.Holds.{Holds as BagsHold}
 use Rattle.bags.proofs.Laws as bags
 use Rattle.kept.specs.declared.Entry.{Entry}
 use Rattle.kept.specs.declared.Slots.{Slots}
@@ -41,8 +40,8 @@ use Rattle.kept.specs.Access.{parallelBy, inNoBag, nobodyOr, accessed, slotsAft
 use Rattle.kept.specs.Holds.{Holds as ListsHold, RestsKept, AccessIs, NotRefused, HoldsAfter}
 use Rattle.kept.proofs.Laws as lists
 use Rattle.checker.specs.declared.State.{State}
-use Rattle.checker.specs.Events.{place, events, isSpawn, isReturn, isSync, isLocking, isUnlocking, actOf, heldAfter, acts, held, most, entryOf, run, visitsAt, visits}
-use Rattle.checker.specs.Rules.{Verdict, goes-on, stops, firstBroken, rules, verdict}
+use Rattle.checker.specs.Events.{place, events, isSpawn, isLocking, isUnlocking, actOf, heldAfter, acts, held, most, entryOf, run, visitsAt, visits}
+use Rattle.checker.specs.Rules.{goes-on, stops, firstBroken, rules, verdict}
 use Rattle.checker.specs.Report.{Race, raceWith, raceAt, found, laid}
 use Rattle.checker.specs.Steps.{Stands, AllRestsKept, refusal, ComesNext, GoesOn, IsRefused, withBags, withHeld, withAccess, raceNamed, written}
 use Rattle.checker.proofs.Stopping.{judged-found, accepted-too}

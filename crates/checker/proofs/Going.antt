@@ -1,6 +1,6 @@
 -- Through a trace: the invariant of the loop, that it holds at first and after each accepted event, and what follows from it where the call stops: the
 -- state stands there as the definitions say, so the answer and the report are those of the definitions. Assumes nothing.
-use Prim.Native.Nat.{ℕ, suc, _-_, _≤_, _<_}
+use Prim.Native.Nat.{ℕ, _-_, _≤_, _<_}
 use mathlib.Core.Path.{_≡_, refl, sym, ap, subst, _∙_}
 use mathlib.Core.Bool.{Bool, cond}
 use mathlib.Core.List.{List}
@@ -14,17 +14,15 @@ use Rattle.bags.specs.Steps.{Begins}
 use Rattle.bags.proofs.Laws as bags
 use Rattle.kept.specs.declared.Slots.{Slots}
 use Rattle.kept.specs.Lists.{sumBelow}
-use Rattle.kept.specs.Pieces.{Pieces, pieces, pieceSize, Fits, RestKept, noneUsed, cleared}
-use Rattle.kept.specs.Holds.{RestsKept}
+use Rattle.kept.specs.Pieces.{Pieces, pieces, pieceSize, Fits, noneUsed, cleared}
 use Rattle.kept.proofs.Laws as lists
 use Rattle.checker.specs.declared.State.{State}
 use Rattle.checker.specs.Events.{place, events, acts, held, most, run}
-use Rattle.checker.specs.Rules.{goes-on, stops, ended, verdict, stop}
+use Rattle.checker.specs.Rules.{stops, ended, verdict, stop}
 use Rattle.checker.specs.Report.{found, laid}
 use Rattle.checker.specs.Call.{answer}
-use Rattle.checker.specs.Demands.{Stops}
 use Rattle.checker.specs.Steps.{Stands, AllRestsKept, GoesOn, IsRefused, answerWith}
-use Rattle.checker.proofs.Stopping.{judged-ended, place-grows, place-within, stops-at}
+use Rattle.checker.proofs.Stopping.{judged-ended, place-grows, stops-at}
 use Rattle.checker.proofs.Bringing.{as-it-is, all-as-they-are}
 
 -- ---- What is kept of the pieces ---------------------------------------------------------------------------------------------------------------

@@ -46,6 +46,13 @@ six-accepted : stop twoRaces ≡ 6
 unfolding evaluation
 six-accepted = refl
 
+visits-in-six : visits (events twoRaces) 6 ≡ 2
+unfolding evaluation
+visits-in-six = refl
+
+two-visits : visits (events twoRaces) (stop twoRaces) ≡ 2
+two-visits = ap (visits (events twoRaces)) six-accepted ∙ visits-in-six
+
 -- ---- The two races ----------------------------------------------------------------------------------------------------------------------------
 
 -- Of the events after 2, event 3 alone can lie before event 3 or 4, and it is neither a sync nor a return.
@@ -169,7 +176,7 @@ impostors-refuted = record {
   -- no visits on the empty trace, and two on the other
   invents-total = λ f total gives counts meets.
       let nothing : total ≡ 0 = sym (gives (given [])) ∙ total-given f counts meets [] (omega arith) in
-      let two : total ≡ 2 = sym (gives (given twoRaces)) ∙ total-given f counts meets twoRaces (omega arith) in
+      let two : total ≡ 2 = sym (gives (given twoRaces)) ∙ total-given f counts meets twoRaces (omega arith) ∙ two-visits in
       omega (arith, nothing, two);
   wrong-total = λ f l wrong meets. wrong (total-told f meets l);
   always-empty-list = λ total d. d .none-missed 1 3 (omega (arith, six-accepted)) race-of-3 .1;

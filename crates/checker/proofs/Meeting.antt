@@ -12,7 +12,7 @@ use Rattle.kept.specs.Lists.{sumBelow}
 use Rattle.kept.specs.Pieces.{Pieces, pieces, pieceSize, Fits, cleared}
 use Rattle.kept.proofs.Laws.{cleared-same}
 use Rattle.checker.specs.declared.Answer.{Answer}
-use Rattle.checker.specs.Events.{events, run, visits}
+use Rattle.checker.specs.Events.{events, run}
 use Rattle.checker.specs.Rules.{Verdict, goes-on, stops, firstBroken, stop}
 use Rattle.checker.specs.Report.{found, laid}
 use Rattle.checker.specs.Call.{WorkingRoom, room, Lent, Left, lent, left, anyShort, mostBytes, unread, answer, codeAlone, clearedRoom, outcomeAfter, outcome}

@@ -1,9 +1,9 @@
 -- No two outcomes satisfy the contract of `check`, as the source states it: it says what the result equals, and the report and every piece of working room
 -- at exit. Assumes nothing.
-use mathlib.Core.Path.{sym, ap, _∙_}
+use mathlib.Core.Path.{sym, _∙_}
 use denote.Ref.{now}
 use Rattle.outcome.specs.Outcome.{OneResult, OneLeft}
-use Rattle.checker.specs.Call.{Lent, room}
+use Rattle.checker.specs.Call.{room}
 use Rattle.checker.proofs.check.Reads as check·contract
 
 pub record NoTwoOutcomes : Type 0 where

@@ -1,7 +1,6 @@
 -- The starred traces of 01, by evaluation of the definitions: all of the table at once. Assumes nothing.
-use Prim.Native.Nat.{ℕ}
-use mathlib.Core.Path.{_≡_, refl}
-use mathlib.Core.List.{List, [], _∷_, map, headD, tail}
+use mathlib.Core.Path.{refl}
+use mathlib.Core.List.{headD}
 use Rattle.trace.specs.Numbers.{value, followed, numberOf, numberAt}
 use Rattle.trace.specs.Kinds.{entry}
 use Rattle.trace.specs.Events.{judged as judgedNumber, readingAt}
@@ -15,7 +14,7 @@ use Rattle.checker.specs.Events.{place, events, actOf, heldAfter, held, 
 use Rattle.checker.specs.Rules.{firstBroken, rules, judged, ended, verdict, stopFrom, stop}
 use Rattle.checker.specs.Report.{raceAt, found, laid}
 use Rattle.checker.specs.Call.{answer}
-use Rattle.checker.specs.Table.{table, AllAsKnown, six}
+use Rattle.checker.specs.Table.{AllAsKnown}
 
 -- A proof that says `unfolding evaluation` computes with all of these.
 unfoldable pub evaluation : Unit {0}

@@ -1,12 +1,10 @@
 -- The report is written entry by entry: what is laid out of some races and more is what is laid out of the former, with the latter written after them.
 -- By the cases of whether an entry fits. Assumes nothing.
-use Prim.Native.Nat.{ℕ, zero, suc, _+_, _*_, _≤_, _<_}
-use mathlib.Core.Path.{_≡_, refl, sym, ap, ap₂, _∙_}
-use mathlib.Core.Bool.{Bool, true, false, cond}
+use Prim.Native.Nat.{ℕ, suc, _+_, _*_, _≤_, _<_}
+use mathlib.Core.Path.{_≡_, refl, sym, ap, _∙_}
 use mathlib.Core.List.{List, [], _∷_, _++_}
 use native.Mathlib.Omega.{arith}
 use native.Mathlib.Decide.{decLt}
-use lib.Dec.{leb}
 use lib.ListN.{length, set, drop}
 use borrow.Author.Tests.{le-leb, lt-leb}
 use Rattle.kept.specs.declared.Entry.{Entry}

@@ -13,9 +13,8 @@ use Rattle.bags.specs.Bags.{bagsSayParallel}
 use Rattle.kept.specs.declared.Entry.{Entry}
 use Rattle.kept.specs.Lists.{In, sumBelow}
 use Rattle.kept.specs.Theorem.{AllDifferent}
-use Rattle.checker.specs.declared.Answer.{Answer}
 use Rattle.checker.specs.Events.{place, events, acts, held, entryOf, run}
-use Rattle.checker.specs.Rules.{Verdict, goes-on, stops, verdict}
+use Rattle.checker.specs.Rules.{goes-on, stops, verdict}
 use Rattle.checker.specs.Report.{Race, found, laid}
 use Rattle.checker.specs.Call.{Lent, Left, unread, codeAlone, clearedRoom}
 

@@ -2,7 +2,6 @@
 use Prim.Native.Nat.{ℕ}
 use mathlib.Core.Path.{_≡_}
 use mathlib.Core.List.{List, [], _∷_, map}
-use lib.ListN.{length}
 use Rattle.checker.specs.declared.Answer.{Answer}
 use Rattle.checker.specs.Events.{events, run}
 use Rattle.checker.specs.Rules.{stop}

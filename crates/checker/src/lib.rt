@@ -94,95 +94,185 @@ const LOCK: u32 = 3;
 
 const UNLOCK: u32 = 4;
 
-impl State {
-    // The answer with this code, the counts being as they stand.
-    fn answer(self, code: u32) -> Answer
-        ensures { λ r. ⌜ r ≡ answerWith code self ⌝ }
-    {
-        let counts = self.counts;
-        Answer {
-            code: code,
-            events: counts.events,
-            offset: self.at,
-            races: counts.races,
-            visits: counts.visits,
-            most: counts.most,
-        }
+// The call: reads a trace, reports the races in it, and returns the code and the counts. Any bytes, any lengths, and whatever the
+// room holds.
+pub fn check(
+    trace: &[u8],
+    report: &mut [u32],
+    heads: &mut [u32],
+    links: &mut [u32],
+    events: &mut [u32],
+    procedures: &mut [u32],
+    sets: &mut [u64],
+    starts: &mut [u32],
+    joins: &mut [u32],
+) -> Answer
+    ensures contract { λ r.
+        ⌜ Contract
+        (lent (now (trace .entry)) (now (report .entry))
+        (room (now (heads .entry)) (now (links .entry)) (now (events .entry)) (now (procedures .entry)) (now (sets .entry)) (now (starts .entry))
+        (now (joins .entry))))
+        (left r (now (report .exit))
+        (room (now (heads .exit)) (now (links .exit)) (now (events .exit)) (now (procedures .exit)) (now (sets .exit)) (now (starts .exit))
+        (now (joins .exit)))) ⌝ }
+{
+    let short = (heads.len() < PIECE)
+        | (links.len() < PIECE)
+        | (events.len() < PIECE)
+        | (procedures.len() < PIECE)
+        | (sets.len() < PIECE)
+        | (starts.len() < PIECE)
+        | (joins.len() < PIECE);
+    if short {
+        return refuse(1);
     }
-
-    // The state after an event that changed the bags.
-    fn with_bags(self, next: usize, pairs: Pairs) -> State
-        requires { ⌜ self .counts .events < mostBytes ⌝ }
-        ensures { λ r. ⌜ r ≡ withBags self next pairs ⌝ }
-    {
-        let held = self.held;
-        let slots = self.slots;
-        let counts = self.counts;
-        State {
-            at: next,
-            held: held,
-            pairs: pairs,
-            slots: slots,
-            counts: Counts {
-                events: counts.events + 1,
-                races: counts.races,
-                visits: counts.visits,
-                most: counts.most,
-            },
-        }
+    if MOST_BYTES < trace.len() {
+        return refuse(2);
     }
+    let answer = examine(
+        trace,
+        report,
+        heads,
+        links,
+        events,
+        procedures,
+        sets,
+        starts,
+        joins,
+    );
+    clear(heads, links, events, procedures, sets);
+    clear_numbers(starts);
+    clear_numbers(joins);
+    answer
+}
 
-    // The state after a lock was taken or released.
-    fn with_held(self, next: usize, held: Held) -> State
-        requires { ⌜ self .counts .events < mostBytes ⌝ }
-        ensures { λ r. ⌜ r ≡ withHeld self next held ⌝ }
-    {
-        let pairs = self.pairs;
-        let slots = self.slots;
-        let counts = self.counts;
-        State {
-            at: next,
-            held: held,
-            pairs: pairs,
-            slots: slots,
-            counts: Counts {
-                events: counts.events + 1,
-                races: counts.races,
-                visits: counts.visits,
-                most: larger(counts.most, held.count()),
-            },
-        }
-    }
-
-    // The state after an access, which made so many visits.
-    fn with_access(self, next: usize, slots: Slots, races: u32, visits: u32) -> State
-        requires { ⌜ self .counts .events < mostBytes ⌝ }
-        requires { ⌜ self .counts .visits ≤ mostVisits ⌝ }
-        ensures { λ r. ⌜ r ≡ withAccess self next slots races visits ⌝ }
-    {
-        let held = self.held;
-        let pairs = self.pairs;
-        let counts = self.counts;
-        State {
-            at: next,
-            held: held,
-            pairs: pairs,
-            slots: slots,
-            counts: Counts {
-                events: counts.events + 1,
-                races: races,
-                visits: counts.visits + visits as u64,
-                most: counts.most,
-            },
-        }
+// A refusal before anything is read: all other numbers are 0.
+fn refuse(code: u32) -> Answer
+    ensures { λ r. ⌜ r ≡ codeAlone code ⌝ }
+{
+    Answer {
+        code: code,
+        events: 0,
+        offset: 0,
+        races: 0,
+        visits: 0,
+        most: 0,
     }
 }
 
-// The larger of two numbers.
-fn larger(a: u32, b: u32) -> u32
-    ensures { λ r. ⌜ r ≡ max a b ⌝ }
+// Goes through a trace that may be read, in room that is long enough.
+fn examine(
+    trace: &[u8],
+    report: &mut [u32],
+    heads: &mut [u32],
+    links: &mut [u32],
+    events: &mut [u32],
+    procedures: &mut [u32],
+    sets: &mut [u64],
+    starts: &mut [u32],
+    joins: &mut [u32],
+) -> Answer
+    requires { ⌜ Fits (pieces (now heads) (now links) (now events) (now procedures) (now sets)) ⌝ }
+    requires { ⌜ pieceSize ≤ length (now starts) ⌝ }
+    requires { ⌜ pieceSize ≤ length (now joins) ⌝ }
+    requires { ⌜ length (now trace) ≤ mostBytes ⌝ }
+    ensures result { λ r. ⌜ r ≡ answer (now (trace .entry)) ⌝ }
+    ensures report { λ _.
+        ⌜ now (report .exit) ≡ laid (found (run (eventsOf (now (trace .entry)))) (stop (now (trace .entry)))) (now (report .entry)) ⌝ }
+    ensures rests { λ _.
+        ⌜ AllRestsKept (pieces (now (heads .entry)) (now (links .entry)) (now (events .entry)) (now (procedures .entry)) (now (sets .entry)))
+        (now (starts .entry)) (now (joins .entry))
+        (pieces (now (heads .exit)) (now (links .exit)) (now (events .exit)) (now (procedures .exit)) (now (sets .exit)))
+        (now (starts .exit)) (now (joins .exit)) ⌝ }
 {
-    if a < b { b } else { a }
+    let mut state = State {
+        at: 0,
+        held: Held::none(),
+        pairs: begin(starts, joins),
+        slots: empty_lists(heads),
+        counts: Counts {
+            events: 0,
+            races: 0,
+            visits: 0,
+            most: 0,
+        },
+    };
+    while state.at < trace.len() {
+        match step(
+            trace,
+            state,
+            report,
+            heads,
+            links,
+            events,
+            procedures,
+            sets,
+            starts,
+            joins,
+        ) {
+            Stepped::Next(then) => {
+                state = then;
+            }
+            Stepped::Stop(code) => {
+                return state.answer(code);
+            }
+        }
+    }
+    let pairs = state.pairs;
+    state.answer(pick(main_is_open(pairs), 14, 0))
+}
+
+// One event: it is read, tested against the rules, and brought in.
+fn step(
+    trace: &[u8],
+    state: State,
+    report: &mut [u32],
+    heads: &mut [u32],
+    links: &mut [u32],
+    events: &mut [u32],
+    procedures: &mut [u32],
+    sets: &mut [u64],
+    starts: &mut [u32],
+    joins: &mut [u32],
+) -> Stepped
+    requires { ⌜ Stands (now trace) (state .counts .events) state (pieces (now heads) (now links) (now events) (now procedures) (now sets))
+        (now starts) (now joins) ⌝ }
+    requires { ⌜ state .at < length (now trace) ⌝ }
+    requires { ⌜ length (now trace) ≤ mostBytes ⌝ }
+    ensures { λ r.
+        ⌜ AfterStep (now (trace .entry)) (state .counts .events) (now (report .entry))
+        (pieces (now (heads .entry)) (now (links .entry)) (now (events .entry)) (now (procedures .entry)) (now (sets .entry)))
+        (now (starts .entry)) (now (joins .entry)) (now (report .exit))
+        (pieces (now (heads .exit)) (now (links .exit)) (now (events .exit)) (now (procedures .exit)) (now (sets .exit)))
+        (now (starts .exit)) (now (joins .exit)) r ⌝ }
+{
+    let held = state.held;
+    let pairs = state.pairs;
+    match read_event(trace, state.at) {
+        Reading::Refused(why, _) => Stepped::Stop(why.code()),
+        Reading::Found(event, next) => {
+            let code = refusal(event, held, main_is_open(pairs));
+            if code != 0 {
+                return Stepped::Stop(code);
+            }
+            if event.is_access() {
+                return reach(
+                    state,
+                    event,
+                    next,
+                    report,
+                    heads,
+                    links,
+                    events,
+                    procedures,
+                    sets,
+                    starts,
+                    joins,
+                );
+            }
+            follow(state, event, next, starts, joins)
+        }
+    }
 }
 
 // The code, of 7 to 10, that an event is refused with, or 0.
@@ -194,18 +284,12 @@ fn refusal(event: Event, held: Held, running: bool) -> u32
     let unlawful = !event.lawful_holding() & !held.is_empty();
     let again = (kind == LOCK) & held.has(lock);
     let missing = (kind == UNLOCK) & !held.has(lock);
+    let after = !running;
     pick(
-        !running,
+        after,
         7,
         pick(unlawful, 8, pick(again, 9, pick(missing, 10, 0))),
     )
-}
-
-// The first number if so, else the second.
-fn pick(so: bool, first: u32, second: u32) -> u32
-    ensures { λ r. ⌜ r ≡ cond so first second ⌝ }
-{
-    if so { first } else { second }
 }
 
 // An event that is no access, and that codes 7 to 10 let pass.
@@ -327,199 +411,100 @@ fn write(report: &mut [u32], races: u32, location: u32, earlier: EventNumber, la
     }
 }
 
-// One event: it is read, tested against the rules, and brought in.
-fn step(
-    trace: &[u8],
-    state: State,
-    report: &mut [u32],
-    heads: &mut [u32],
-    links: &mut [u32],
-    events: &mut [u32],
-    procedures: &mut [u32],
-    sets: &mut [u64],
-    starts: &mut [u32],
-    joins: &mut [u32],
-) -> Stepped
-    requires { ⌜ Stands (now trace) (state .counts .events) state (pieces (now heads) (now links) (now events) (now procedures) (now sets))
-        (now starts) (now joins) ⌝ }
-    requires { ⌜ state .at < length (now trace) ⌝ }
-    requires { ⌜ length (now trace) ≤ mostBytes ⌝ }
-    ensures { λ r.
-        ⌜ AfterStep (now (trace .entry)) (state .counts .events) (now (report .entry))
-        (pieces (now (heads .entry)) (now (links .entry)) (now (events .entry)) (now (procedures .entry)) (now (sets .entry)))
-        (now (starts .entry)) (now (joins .entry)) (now (report .exit))
-        (pieces (now (heads .exit)) (now (links .exit)) (now (events .exit)) (now (procedures .exit)) (now (sets .exit)))
-        (now (starts .exit)) (now (joins .exit)) r ⌝ }
-{
-    let held = state.held;
-    let pairs = state.pairs;
-    match read_event(trace, state.at) {
-        Reading::Refused(why, _) => Stepped::Stop(why.code()),
-        Reading::Found(event, next) => {
-            let code = refusal(event, held, main_is_open(pairs));
-            if code != 0 {
-                return Stepped::Stop(code);
-            }
-            if event.is_access() {
-                return reach(
-                    state,
-                    event,
-                    next,
-                    report,
-                    heads,
-                    links,
-                    events,
-                    procedures,
-                    sets,
-                    starts,
-                    joins,
-                );
-            }
-            follow(state, event, next, starts, joins)
+impl State {
+    // The answer with this code, the counts being as they stand.
+    fn answer(self, code: u32) -> Answer
+        ensures { λ r. ⌜ r ≡ answerWith code self ⌝ }
+    {
+        let counts = self.counts;
+        Answer {
+            code: code,
+            events: counts.events,
+            offset: self.at,
+            races: counts.races,
+            visits: counts.visits,
+            most: counts.most,
+        }
+    }
+
+    // The state after an event that changed the bags.
+    fn with_bags(self, next: usize, pairs: Pairs) -> State
+        requires { ⌜ self .counts .events < mostBytes ⌝ }
+        ensures { λ r. ⌜ r ≡ withBags self next pairs ⌝ }
+    {
+        let held = self.held;
+        let slots = self.slots;
+        let counts = self.counts;
+        State {
+            at: next,
+            held: held,
+            pairs: pairs,
+            slots: slots,
+            counts: Counts {
+                events: counts.events + 1,
+                races: counts.races,
+                visits: counts.visits,
+                most: counts.most,
+            },
+        }
+    }
+
+    // The state after a lock was taken or released.
+    fn with_held(self, next: usize, held: Held) -> State
+        requires { ⌜ self .counts .events < mostBytes ⌝ }
+        ensures { λ r. ⌜ r ≡ withHeld self next held ⌝ }
+    {
+        let pairs = self.pairs;
+        let slots = self.slots;
+        let counts = self.counts;
+        State {
+            at: next,
+            held: held,
+            pairs: pairs,
+            slots: slots,
+            counts: Counts {
+                events: counts.events + 1,
+                races: counts.races,
+                visits: counts.visits,
+                most: larger(counts.most, held.count()),
+            },
+        }
+    }
+
+    // The state after an access, which made so many visits.
+    fn with_access(self, next: usize, slots: Slots, races: u32, visits: u32) -> State
+        requires { ⌜ self .counts .events < mostBytes ⌝ }
+        requires { ⌜ self .counts .visits ≤ mostVisits ⌝ }
+        ensures { λ r. ⌜ r ≡ withAccess self next slots races visits ⌝ }
+    {
+        let held = self.held;
+        let pairs = self.pairs;
+        let counts = self.counts;
+        State {
+            at: next,
+            held: held,
+            pairs: pairs,
+            slots: slots,
+            counts: Counts {
+                events: counts.events + 1,
+                races: races,
+                visits: counts.visits + visits as u64,
+                most: counts.most,
+            },
         }
     }
 }
 
-// Goes through a trace that may be read, in room that is long enough.
-fn examine(
-    trace: &[u8],
-    report: &mut [u32],
-    heads: &mut [u32],
-    links: &mut [u32],
-    events: &mut [u32],
-    procedures: &mut [u32],
-    sets: &mut [u64],
-    starts: &mut [u32],
-    joins: &mut [u32],
-) -> Answer
-    requires { ⌜ Fits (pieces (now heads) (now links) (now events) (now procedures) (now sets)) ⌝ }
-    requires { ⌜ pieceSize ≤ length (now starts) ⌝ }
-    requires { ⌜ pieceSize ≤ length (now joins) ⌝ }
-    requires { ⌜ length (now trace) ≤ mostBytes ⌝ }
-    ensures result { λ r. ⌜ r ≡ answer (now (trace .entry)) ⌝ }
-    ensures report { λ _.
-        ⌜ now (report .exit) ≡ laid (found (run (eventsOf (now (trace .entry)))) (stop (now (trace .entry)))) (now (report .entry)) ⌝ }
-    ensures rests { λ _.
-        ⌜ AllRestsKept (pieces (now (heads .entry)) (now (links .entry)) (now (events .entry)) (now (procedures .entry)) (now (sets .entry)))
-        (now (starts .entry)) (now (joins .entry))
-        (pieces (now (heads .exit)) (now (links .exit)) (now (events .exit)) (now (procedures .exit)) (now (sets .exit)))
-        (now (starts .exit)) (now (joins .exit)) ⌝ }
+// The larger of two numbers.
+fn larger(a: u32, b: u32) -> u32
+    ensures { λ r. ⌜ r ≡ max a b ⌝ }
 {
-    let mut state = State {
-        at: 0,
-        held: Held::none(),
-        pairs: begin(starts, joins),
-        slots: empty_lists(heads),
-        counts: Counts {
-            events: 0,
-            races: 0,
-            visits: 0,
-            most: 0,
-        },
-    };
-    while state.at < trace.len() {
-        match step(
-            trace,
-            state,
-            report,
-            heads,
-            links,
-            events,
-            procedures,
-            sets,
-            starts,
-            joins,
-        ) {
-            Stepped::Next(then) => {
-                state = then;
-            }
-            Stepped::Stop(code) => {
-                return state.answer(code);
-            }
-        }
-    }
-    let pairs = state.pairs;
-    state.answer(pick(main_is_open(pairs), 14, 0))
+    if a < b { b } else { a }
 }
 
-// Is a piece of working room too short?
-fn is_short(
-    heads: &[u32],
-    links: &[u32],
-    events: &[u32],
-    procedures: &[u32],
-    sets: &[u64],
-    starts: &[u32],
-    joins: &[u32],
-) -> bool
-    ensures { λ r.
-        ⌜ r ≡ anyShort (room (now (heads .entry)) (now (links .entry)) (now (events .entry)) (now (procedures .entry)) (now (sets .entry))
-        (now (starts .entry)) (now (joins .entry))) ⌝ }
+// The first number if so, else the second.
+fn pick(so: bool, first: u32, second: u32) -> u32
+    ensures { λ r. ⌜ r ≡ cond so first second ⌝ }
 {
-    (heads.len() < PIECE)
-        | (links.len() < PIECE)
-        | (events.len() < PIECE)
-        | (procedures.len() < PIECE)
-        | (sets.len() < PIECE)
-        | (starts.len() < PIECE)
-        | (joins.len() < PIECE)
-}
-
-// A refusal before anything is read: all other numbers are 0.
-fn refuse(code: u32) -> Answer
-    ensures { λ r. ⌜ r ≡ codeAlone code ⌝ }
-{
-    Answer {
-        code: code,
-        events: 0,
-        offset: 0,
-        races: 0,
-        visits: 0,
-        most: 0,
-    }
-}
-
-// The call: reads a trace, reports the races in it, and returns the code and the counts. Any bytes, any lengths, and whatever the
-// room holds.
-pub fn check(
-    trace: &[u8],
-    report: &mut [u32],
-    heads: &mut [u32],
-    links: &mut [u32],
-    events: &mut [u32],
-    procedures: &mut [u32],
-    sets: &mut [u64],
-    starts: &mut [u32],
-    joins: &mut [u32],
-) -> Answer
-    ensures contract { λ r.
-        ⌜ Contract
-        (lent (now (trace .entry)) (now (report .entry))
-        (room (now (heads .entry)) (now (links .entry)) (now (events .entry)) (now (procedures .entry)) (now (sets .entry)) (now (starts .entry))
-        (now (joins .entry))))
-        (left r (now (report .exit))
-        (room (now (heads .exit)) (now (links .exit)) (now (events .exit)) (now (procedures .exit)) (now (sets .exit)) (now (starts .exit))
-        (now (joins .exit)))) ⌝ }
-{
-    if is_short(heads, links, events, procedures, sets, starts, joins) {
-        return refuse(1);
-    }
-    if MOST_BYTES < trace.len() {
-        return refuse(2);
-    }
-    let answer = examine(
-        trace,
-        report,
-        heads,
-        links,
-        events,
-        procedures,
-        sets,
-        starts,
-        joins,
-    );
-    clear(heads, links, events, procedures, sets);
-    clear_numbers(starts);
-    clear_numbers(joins);
-    answer
+    if so { first } else { second }
 }

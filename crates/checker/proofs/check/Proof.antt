@@ -1,21 +1,20 @@
 -- `check` refuses, or reads the trace and clears the room: each way out is a law of `Meeting`. Assumes nothing.
 use Prim.Native.Nat.{_≤_}
-use mathlib.Core.Path.{_≡_, sym, _∙_}
+use mathlib.Core.Path.{_≡_}
 use mathlib.Core.Bool.{false}
 use borrow.Author.Needs.{needs}
 use lib.ListN.{length}
 use Rattle.kept.specs.Pieces.{Pieces, pieces, pieceSize, Fits}
 use Rattle.checker.specs.Call.{WorkingRoom, room, anyShort}
-use Rattle.checker.specs.Steps.{AllRestsKept}
 use Rattle.checker.proofs.Meeting.{short-refused, long-refused, room-fits, fits-still, read-and-cleared}
 use Rattle.checker.proofs.check.Statement.{statement}
 use Rattle.checker.proofs.check.Tie as tie
 
 -- What was given.
-abbrev start : tie.After-is-short → tie.Start
-start c = c .before .before .before .before .before .before .before .before .before .before .before .before .before .before .before .before .before
+abbrev start : tie.After-slice-known8 → tie.Start
+start c = c .before .before .before .before .before .before .before .before .before
 
-abbrev lent : tie.After-is-short → WorkingRoom
+abbrev lent : tie.After-slice-known8 → WorkingRoom
 lent c =
     let given = start c .args in
     room (given .heads .now) (given .links .now) (given .events .now) (given .procedures .now) (given .sets .now) (given .starts .now) (given .joins .now)
@@ -25,7 +24,7 @@ listed r = pieces (r .heads) (r .links) (r .events) (r .procedures) (r .sets)
 
 -- No piece is short.
 fits : (c : tie.Else1) → anyShort (lent (c .before)) ≡ false
-fits c = sym (c .before .is-short .ensures) ∙ c .if1 .left
+fits c = c .if1 .left
 
 -- From the clearing back to where the trace was read, and from there to the tests.
 abbrev read : tie.After-clear → tie.After-examine
@@ -46,59 +45,14 @@ still : (c : tie.After-examine)
     → Fits (listed (between c)) × (pieceSize ≤ length (between c .starts)) × (pieceSize ≤ length (between c .joins))
 still c = fits-still _ _ _ _ _ _ (room-fits (lent (tested c .before .before)) (fits (tested c .before))) (c .examine .ensures .1 .1)
 
-is-short-requires : tie.Need-is-short-requires
-is-short-requires c κs = search needs
-
 refuse-requires : tie.Need-refuse-requires
 refuse-requires c κs = search needs
 
-same-length : tie.Need-same-length
-same-length c = search needs
-
-same-length-2 : tie.Need-same-length-2
-same-length-2 c = search needs
-
-same-length-3 : tie.Need-same-length-3
-same-length-3 c = search needs
-
-same-length-4 : tie.Need-same-length-4
-same-length-4 c = search needs
-
-same-length-5 : tie.Need-same-length-5
-same-length-5 c = search needs
-
-same-length-6 : tie.Need-same-length-6
-same-length-6 c = search needs
-
-same-length-7 : tie.Need-same-length-7
-same-length-7 c = search needs
-
 returns : tie.Need-returns
-returns c = short-refused _ _ _ _ (sym (c .before .before .is-short .ensures) ∙ c .before .if1 .taken) (c .refuse .ensures)
+returns c = short-refused _ _ _ _ (c .before .if1 .taken) (c .refuse .ensures)
 
 refuse-requires-2 : tie.Need-refuse-requires-2
 refuse-requires-2 c κs = search needs
-
-same-length-8 : tie.Need-same-length-8
-same-length-8 c = search needs
-
-same-length-9 : tie.Need-same-length-9
-same-length-9 c = search needs
-
-same-length-10 : tie.Need-same-length-10
-same-length-10 c = search needs
-
-same-length-11 : tie.Need-same-length-11
-same-length-11 c = search needs
-
-same-length-12 : tie.Need-same-length-12
-same-length-12 c = search needs
-
-same-length-13 : tie.Need-same-length-13
-same-length-13 c = search needs
-
-same-length-14 : tie.Need-same-length-14
-same-length-14 c = search needs
 
 returns-2 : tie.Need-returns-2
 returns-2 c = long-refused _ _ _ _ (fits (c .before .before)) (c .before .if2 .taken) (c .refuse2 .ensures)
@@ -124,29 +78,29 @@ clear-numbers-requires-2 : tie.Need-clear-numbers-requires-2
 clear-numbers-requires-2 c κs =
     still (read (c .before .before .before .before .before .before .before .before .before .before .before .before .before .before .before)) .2
 
-same-length-15 : tie.Need-same-length-15
-same-length-15 c = search needs
+same-length : tie.Need-same-length
+same-length c = search needs
 
-same-length-16 : tie.Need-same-length-16
-same-length-16 c = search needs
+same-length-2 : tie.Need-same-length-2
+same-length-2 c = search needs
 
-same-length-17 : tie.Need-same-length-17
-same-length-17 c = search needs
+same-length-3 : tie.Need-same-length-3
+same-length-3 c = search needs
 
-same-length-18 : tie.Need-same-length-18
-same-length-18 c = search needs
+same-length-4 : tie.Need-same-length-4
+same-length-4 c = search needs
 
-same-length-19 : tie.Need-same-length-19
-same-length-19 c = search needs
+same-length-5 : tie.Need-same-length-5
+same-length-5 c = search needs
 
-same-length-20 : tie.Need-same-length-20
-same-length-20 c = search needs
+same-length-6 : tie.Need-same-length-6
+same-length-6 c = search needs
 
-same-length-21 : tie.Need-same-length-21
-same-length-21 c = search needs
+same-length-7 : tie.Need-same-length-7
+same-length-7 c = search needs
 
-same-length-22 : tie.Need-same-length-22
-same-length-22 c = search needs
+same-length-8 : tie.Need-same-length-8
+same-length-8 c = search needs
 
 returns-3 : tie.Need-returns-3
 returns-3 c =
@@ -165,8 +119,14 @@ pub check-spec : {M : Type 1} → statement M
 check-spec =
     tie.close
     (tie.spec
-    is-short-requires
     refuse-requires
+    returns
+    refuse-requires-2
+    returns-2
+    examine-requires
+    clear-requires
+    clear-numbers-requires
+    clear-numbers-requires-2
     same-length
     same-length-2
     same-length-3
@@ -174,26 +134,5 @@ check-spec =
     same-length-5
     same-length-6
     same-length-7
-    returns
-    refuse-requires-2
     same-length-8
-    same-length-9
-    same-length-10
-    same-length-11
-    same-length-12
-    same-length-13
-    same-length-14
-    returns-2
-    examine-requires
-    clear-requires
-    clear-numbers-requires
-    clear-numbers-requires-2
-    same-length-15
-    same-length-16
-    same-length-17
-    same-length-18
-    same-length-19
-    same-length-20
-    same-length-21
-    same-length-22
     returns-3)

@@ -4,58 +4,43 @@ use borrow.Author.Needs.{needs}
 use Rattle.checker.proofs.Writing.{entry-fits, no-entry-fits}
 use Rattle.checker.proofs.write.Statement.{statement}
 use Rattle.checker.proofs.write.Tie as tie
-use Rattle.checker.proofs.write.Reads as reads
-use Rattle.checker.proofs.write.Lts as lts
 
--- src/lib.rt:294:14
 mul-at : tie.Need-mul-at
 mul-at c = search needs
 
--- src/lib.rt:295:8
 add-if1 : tie.Need-add-if1
 add-if1 c = search needs
 
--- src/lib.rt:296:9
 mul-report : tie.Need-mul-report
 mul-report c = search needs
 
--- src/lib.rt:296:9
 slice-write-report : tie.Need-slice-write-report
 slice-write-report c = search needs
 
--- src/lib.rt:297:16
 add-report : tie.Need-add-report
 add-report c = search needs
 
--- src/lib.rt:297:9
 mul-report-2 : tie.Need-mul-report-2
 mul-report-2 c = search needs
 
--- src/lib.rt:297:9
 slice-write-report-2 : tie.Need-slice-write-report-2
 slice-write-report-2 c = rw length-set (search needs)
 
--- src/lib.rt:298:16
 add-report-2 : tie.Need-add-report-2
 add-report-2 c = search needs
 
--- src/lib.rt:298:9
 mul-report-3 : tie.Need-mul-report-3
 mul-report-3 c = search needs
 
--- src/lib.rt:298:9
 slice-write-report-3 : tie.Need-slice-write-report-3
 slice-write-report-3 c = rw (length-set, length-set) (search needs)
 
--- src/lib.rt:290:1
 same-length : tie.Need-same-length
 same-length c = search needs
 
--- src/lib.rt:290:1
 returns : tie.Need-returns
 returns c = entry-fits _ _ _ _ _ (search needs)
 
--- src/lib.rt:290:1
 returns-2 : tie.Need-returns-2
 returns-2 c = no-entry-fits _ _ _ _ _ (search needs)
 
