@@ -6,7 +6,7 @@ use mathlib.Core.Path.{_≡_, refl, sym, ap, _∙_}
 use mathlib.Core.Logic.{_⊎_, inl, inr, ⊎-elim}
 use mathlib.Core.Bool.{Bool, true, false, true≢false}
 use mathlib.Core.List.{List, [], _∷_, _++_}
-use mathlib.Core.Option.{Option, none, some, Option·some-injective, Option·none-ne-some}
+use mathlib.Core.Option.{Option, none, some}
 use native.Mathlib.Decide.{decLt}
 use native.Mathlib.Nat.{not-suc-le-zero, le-of-eq}
 use native.Mathlib.Omega.{arith}
@@ -14,49 +14,18 @@ use Rattle.kept.specs.declared.Entry.{Entry}
 use Rattle.kept.specs.Lists.{any, first, In}
 use Rattle.kept.specs.Rules.{races, reported, named}
 use Rattle.kept.specs.Theorem.{Run, visited}
+use Rattle.kept.proofs.Laws.{either-way, in-front, in-back, in-either, first-has}
 use Rattle.checker.specs.Report.{Race, raceWith, raceAt, found}
 use Rattle.checker.specs.Demands.{Rising}
 
--- What follows from yes and from no follows.
-either-way : {C : Type 0} (b : Bool) → (b ≡ true → C) → (b ≡ false → C) → C
-either-way true yes-case no-case = yes-case refl
-either-way false yes-case no-case = no-case refl
-
--- ---- who is in a list
-
-module _ {A : Type 0} where
-  -- Where a test says yes to some, there is a first to which it does; and the first is in the list.
-  first-of-any : (test : A → Bool) (list : List A) → any test list ≡ true → (a : A) × (first test list ≡ some a)
-  unfolding any first
-  first-of-any test [] q = absurd (true≢false (sym q))
-  first-of-any test (b ∷ list) q =
-      either-way (test b) (λ t. (b, rw t refl)) (λ t. let rest = first-of-any test list (rw t at q) in (rest .0, rw t (rest .1)))
-
-  first-is-in : (test : A → Bool) (list : List A) (a : A) → first test list ≡ some a → In a list
-  unfolding first In
-  first-is-in test [] a q = absurd (Option·none-ne-some a q)
-  first-is-in test (b ∷ list) a q =
-      either-way (test b) (λ t. inl (sym (Option·some-injective b a (rw t at q)))) (λ t. inr (first-is-in test list a (rw t at q)))
-
-  -- Whoever is in one of two lists is in the two together; and the other way round.
-  in-front : (list rest : List A) (a : A) → In a list → In a (list ++ rest)
-  unfolding In
-  in-front [] rest a h = absurd h
-  in-front (b ∷ list) rest a (inl q) = inl q
-  in-front (b ∷ list) rest a (inr h) = inr (in-front list rest a h)
-
-  in-back : (list rest : List A) (a : A) → In a rest → In a (list ++ rest)
-  unfolding In
-  in-back [] rest a h = h
-  in-back (b ∷ list) rest a h = inr (in-back list rest a h)
-
-  in-either : (list rest : List A) (a : A) → In a (list ++ rest) → In a list ⊎ In a rest
-  unfolding In
-  in-either [] rest a h = inr h
-  in-either (b ∷ list) rest a (inl q) = inl (inl q)
-  in-either (b ∷ list) rest a (inr h) = ⊎-elim (λ (f : In a list). inl (inr f)) (λ (l : In a rest). inr l) (in-either list rest a h)
-
 -- ---- the entry that is named
+
+-- Where a test says yes to some, there is a first to which it does.
+first-of-any : {A : Type 0} (test : A → Bool) (list : List A) → any test list ≡ true → (a : A) × (first test list ≡ some a)
+unfolding any first
+first-of-any test [] q = absurd (true≢false (sym q))
+first-of-any test (b ∷ list) q =
+    either-way (test b) (λ t. (b, rw t refl)) (λ t. let rest = first-of-any test list (rw t at q) in (rest .0, rw t (rest .1)))
 
 -- Where an access is reported an entry is named, and what is named is in the list.
 pub reported-names : (parallel : Entry → Bool) (e : Entry) (list : List Entry) → reported parallel e list ≡ true
@@ -66,7 +35,7 @@ reported-names parallel e list q = first-of-any (races parallel e) list q
 
 pub named-is-in : (parallel : Entry → Bool) (e : Entry) (list : List Entry) (l : Entry) → named parallel e list ≡ some l → In l list
 unfolding named
-named-is-in parallel e list l q = first-is-in (races parallel e) list l q
+named-is-in parallel e list l q = first-has (races parallel e) list l q .0
 
 -- ---- the race at an event
 

@@ -4,10 +4,10 @@ use Prim.Native.Nat.{ℕ, zero, suc}
 use mathlib.Core.Path.{_≡_, refl, _∙_}
 use mathlib.Core.Bool.{Bool, true, false, cond, not, _&&_}
 use Rattle.trace.specs.declared.Event.{Event}
-use Rattle.trace.specs.Kinds.{isRead}
+use Rattle.trace.specs.Kinds.{isLocking, isUnlocking, isRead}
 use Rattle.locks.specs.Sets.{mark, isIn, taken, released, apart}
 use Rattle.locks.proofs.Laws.{none-mark, taken-mark, released-mark, apart-of-accesses}
-use Rattle.checker.specs.Events.{isLocking, isUnlocking, heldAfter, held, entryOf}
+use Rattle.checker.specs.Events.{heldAfter, held, entryOf}
 
 -- No event adds the mark.
 mark-as-before : (e : Event) (set : ℕ) → isIn mark (heldAfter e set) ≡ isIn mark set

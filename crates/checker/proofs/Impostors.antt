@@ -8,16 +8,21 @@ use mathlib.Core.List.{List, [], _∷_}
 use native.Mathlib.Omega.{arith}
 use lib.ListN.{length, getD, replicate, length-replicate}
 use borrow.Author.Tests.{le-ltb}
+use Rattle.trace.specs.Kinds.{isAccess, location}
+use Rattle.locks.specs.Sets.{apart}
 use Rattle.bags.specs.Parallel.{Act, return, sync, other, NoneBetween, Parallel}
 use Rattle.kept.specs.Lists.{In}
 use Rattle.kept.specs.Pieces.{pieceSize}
-use Rattle.checker.specs.Events.{events, acts, entryOf, visits, visitsAt}
+use Rattle.checker.specs.declared.Answer.{Answer}
+use Rattle.checker.specs.Events.{events, acts, held, entryOf, visits, visitsAt}
 use Rattle.checker.specs.Rules.{Verdict, goes-on, firstBroken, stop}
 use Rattle.checker.specs.Report.{Race, laid}
 use Rattle.checker.specs.Call.{Lent, lent, room, mostBytes, unread, answer, outcomeAfter}
 use Rattle.checker.specs.Demands.{Stops, Races, Reported, Demand2}
 use Rattle.checker.specs.Table.{nines}
-use Rattle.checker.specs.Impostors.{Program, MeetsDemand2, MeetsDemand3, CountsEvents, twoRaces, ImpostorsRefuted}
+use Rattle.checker.specs.Impostors.{Program, RefusesEveryTrace, AlwaysNoRaces, WritesNothing, HonestOnce, SameTotal, WrongTotal}
+use Rattle.checker.specs.Impostors.{Impostor, refuses-every-trace, always-no-races, writes-nothing, honest-once, same-total, wrong-total}
+use Rattle.checker.specs.Impostors.{MeetsContract, MeetsDemand1, MeetsDemand2, MeetsDemand3, CountsEvents, twoRaces, ImpostorsRefuted}
 use Rattle.checker.proofs.Table.{evaluation}
 
 -- ---- What is lent -----------------------------------------------------------------------------------------------------------------------------
@@ -78,27 +83,25 @@ parallel-with j after-2 before-5 = record {
   no-return-of-G = none-between return (λ q. let z : _≡_ {A = ℕ} 0 1 = cc in omega arith) j before-5;
 }
 
-race-of-3 : Races (events twoRaces) 1 3
+-- So a write like event 3, with the same locks held, races with event 1.
+race-of : (j : ℕ) → 2 < j → j < 5 → events twoRaces j ≡ events twoRaces 3 → held (events twoRaces) j ≡ held (events twoRaces) 3
+    → Races (events twoRaces) 1 j
 unfolding evaluation
-race-of-3 = record {
+race-of j after-2 before-5 same same-held = record {
   earlier = omega arith;
-  accesses = (refl, refl);
-  same-location = refl;
-  parallel = parallel-with 3 (omega arith) (omega arith);
-  no-lock-shared = refl;
+  accesses = (refl, ap isAccess same);
+  same-location = sym (ap location same);
+  parallel = parallel-with j after-2 before-5;
+  no-lock-shared = ap (apart (held (events twoRaces) 1)) same-held;
   one-writes = refl;
 }
 
+race-of-3 : Races (events twoRaces) 1 3
+race-of-3 = race-of 3 (omega arith) (omega arith) refl refl
+
 race-of-4 : Races (events twoRaces) 1 4
 unfolding evaluation
-race-of-4 = record {
-  earlier = omega arith;
-  accesses = (refl, refl);
-  same-location = refl;
-  parallel = parallel-with 4 (omega arith) (omega arith);
-  no-lock-shared = refl;
-  one-writes = refl;
-}
+race-of-4 = race-of 4 (omega arith) (omega arith) refl refl
 
 -- So a list that has an access exactly if it races has event 3 and event 4, and thus two entries at least.
 two-in : {A : Type 0} (list : List A) (a b : A) → In a list → In b list → a ≢ b → 2 ≤ length list
@@ -159,25 +162,58 @@ total-given : (f : Program) → CountsEvents f → MeetsDemand3 f → (trace : L
     → f (given trace) .answer .visits ≡ visits (events trace) (stop trace)
 total-given f counts meets trace short = total-told f meets (given trace) ∙ ap (visits (events trace)) (counted f counts trace short)
 
+-- What meets the contract counts the accepted events.
+counts-events : (f : Program) → MeetsContract f → CountsEvents f
+counts-events f meets l = ap (λ (a : Answer). a .events) (meets l .answer)
+
+refuses-all : (f : Program) → RefusesEveryTrace f → MeetsDemand1 f → ⊥
+refuses-all f refuses meets =
+    let l = given (0x01 ∷ []) in
+    refuses l (meets l .code-exactly (reads (0x01 ∷ []) (omega arith)) 0 1 .1 accepted-return .0)
+
+no-races : (f : Program) → AlwaysNoRaces f → CountsEvents f → MeetsDemand2 f → ⊥
+no-races f says counts meets = omega (arith, says (given twoRaces), two-counted (on-two-races f counts meets))
+
+nothing-written : (f : Program) → WritesNothing f → CountsEvents f → MeetsDemand2 f → ⊥
+unfolding In
+nothing-written f leaves counts meets =
+    let d = on-two-races f counts meets in
+    let (r, h, third) = first-written-third (d .list) (has-3 d .0) (has-3 d .1) in
+    let nine : _≡_ {A = ℕ} 9 (r .later .event .0) = ap (λ (report : List ℕ). getD report 2 0) (sym (leaves (given twoRaces)) ∙ d .first-written) ∙ third in
+    omega (arith, nine, below-6 d r h)
+
+one-at-most : (f : Program) → HonestOnce f → CountsEvents f → MeetsDemand2 f → ⊥
+one-at-most f says counts meets = omega (arith, says (given twoRaces), two-counted (on-two-races f counts meets))
+
+-- No visits on the empty trace, and two on the other.
+always-the-same : (f : Program) → SameTotal f → CountsEvents f → MeetsDemand3 f → ⊥
+unfolding evaluation
+always-the-same f invents counts meets =
+    let gives = invents .1 in
+    let nothing : invents .0 ≡ 0 = sym (gives (given [])) ∙ total-given f counts meets [] (omega arith) in
+    let two : invents .0 ≡ 2 = sym (gives (given twoRaces)) ∙ total-given f counts meets twoRaces (omega arith) ∙ two-visits in
+    omega (arith, nothing, two)
+
+another-than-the-sum : (f : Program) → WrongTotal f → MeetsDemand3 f → ⊥
+another-than-the-sum f wrong meets = wrong .1 (total-told f meets (wrong .0))
+
+none-meets : (f : Program) → Impostor f → MeetsContract f → ⊥
+none-meets f (refuses-every-trace is) meets = refuses-all f is (λ l. meets l .demand1)
+none-meets f (always-no-races is) meets = no-races f is (counts-events f meets) (λ l. meets l .demand2)
+none-meets f (writes-nothing is) meets = nothing-written f is (counts-events f meets) (λ l. meets l .demand2)
+none-meets f (honest-once is) meets = one-at-most f is (counts-events f meets) (λ l. meets l .demand2)
+none-meets f (same-total is) meets = always-the-same f is (counts-events f meets) (λ l. meets l .demand3)
+none-meets f (wrong-total is) meets = another-than-the-sum f is (λ l. meets l .demand3)
+
 pub impostors-refuted : ImpostorsRefuted
-unfolding evaluation In
+unfolding In
 impostors-refuted = record {
-  refuses-every-trace = λ f refuses meets.
-      let l = given (0x01 ∷ []) in
-      refuses l (meets l .code-exactly (reads (0x01 ∷ []) (omega arith)) 0 1 .1 accepted-return .0);
-  always-no-races = λ f says counts meets. omega (arith, says (given twoRaces), two-counted (on-two-races f counts meets));
-  writes-nothing = λ f leaves counts meets.
-      let d = on-two-races f counts meets in
-      let (r, h, third) = first-written-third (d .list) (has-3 d .0) (has-3 d .1) in
-      let nine : _≡_ {A = ℕ} 9 (r .later .event .0) =
-      ap (λ (report : List ℕ). getD report 2 0) (sym (leaves (given twoRaces)) ∙ d .first-written) ∙ third in
-      omega (arith, nine, below-6 d r h);
-  honest-once = λ f says counts meets. omega (arith, says (given twoRaces), two-counted (on-two-races f counts meets));
-  -- no visits on the empty trace, and two on the other
-  invents-total = λ f total gives counts meets.
-      let nothing : total ≡ 0 = sym (gives (given [])) ∙ total-given f counts meets [] (omega arith) in
-      let two : total ≡ 2 = sym (gives (given twoRaces)) ∙ total-given f counts meets twoRaces (omega arith) ∙ two-visits in
-      omega (arith, nothing, two);
-  wrong-total = λ f l wrong meets. wrong (total-told f meets l);
-  always-empty-list = λ total d. d .none-missed 1 3 (omega (arith, six-accepted)) race-of-3 .1;
+  refusing-breaks-1 = refuses-all;
+  no-races-breaks-2 = no-races;
+  no-writing-breaks-2 = nothing-written;
+  honest-once-breaks-2 = one-at-most;
+  same-total-breaks-3 = always-the-same;
+  wrong-total-breaks-3 = another-than-the-sum;
+  empty-list-breaks-3 = λ total d. d .none-missed 1 3 (omega (arith, six-accepted)) race-of-3 .1;
+  none-meets-the-contract = none-meets;
 }

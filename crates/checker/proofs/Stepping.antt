@@ -29,7 +29,8 @@ use Rattle.checker.specs.Report.{raceWith, raceAt, found}
 use Rattle.checker.specs.Call.{mostBytes}
 use Rattle.checker.specs.Steps.{Stands, refusal, ComesNext, Safe, IsRefused}
 use Rattle.checker.proofs.Stopping.{judged-refused, place-within}
-use Rattle.checker.proofs.Bringing.{verdict-by-code, all-as-they-are}
+use Rattle.checker.proofs.Rests.{all-as-they-are}
+use Rattle.checker.proofs.Bringing.{verdict-by-code}
 
 -- ---- The counts stay small --------------------------------------------------------------------------------------------------------------------
 
@@ -92,7 +93,8 @@ module _ (trace : List ℕ) (p : Pieces) (s : State) (starts joins : List ℕ) (
 
 -- ---- Refused before it is brought in ----------------------------------------------------------------------------------------------------------
 
-module _ (trace report : List ℕ) (k : ℕ) (p : Pieces) (s : State) (starts joins : List ℕ) (before : Stands trace k s p starts joins) (left : s .at < length trace) where
+module _ (trace report : List ℕ) (k : ℕ) (p : Pieces) (s : State) (starts joins : List ℕ)
+    (before : Stands trace k s p starts joins) (left : s .at < length trace) where
   -- No event was read,
   pub reading-refused : (why : Refusal) (at c : ℕ) → readingAt trace (s .at) ≡ Refused why at → c ≡ codeOf why
       → IsRefused trace k report p starts joins report p starts joins c

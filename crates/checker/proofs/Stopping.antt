@@ -18,9 +18,9 @@ use Rattle.trace.specs.Events.{codeOf, readingAt}
 use Rattle.trace.proofs.Laws.{found}
 use Rattle.bags.specs.Parallel.{mainOpen}
 use Rattle.checker.specs.Events.{eventIn, placeAfter, place, events, acts}
-use Rattle.checker.specs.Rules.{Verdict, goes-on, stops, firstBroken, rules, judged, ended, verdict, accepts, stopFrom, stop, codeIn}
+use Rattle.checker.specs.Rules.{Verdict, goes-on, stops, firstBroken, rules, byReading, ended, verdict, AcceptedBefore, accepts, stopFrom}
+use Rattle.checker.specs.Rules.{stop, codeIn}
 use Rattle.checker.specs.Demands.{Stops}
-use Rattle.checker.specs.Steps.{AcceptedBefore}
 
 -- ---- What is said at an event -----------------------------------------------------------------------------------------------------------------
 
@@ -29,23 +29,23 @@ pub judged-ended : (trace : List ℕ) (k : ℕ) → length trace ≤ place trace
 unfolding verdict
 judged-ended trace k end = rw (le-leb (length trace) (place trace k) end) refl
 
--- and where a byte is left: what was read there is judged,
+-- and where a byte is left: what was read there is byReading,
 judged-read : (trace : List ℕ) (k : ℕ) → place trace k < length trace
-    → verdict trace k ≡ judged (events trace) k (readingAt trace (place trace k))
+    → verdict trace k ≡ byReading (events trace) k (readingAt trace (place trace k))
 unfolding verdict
 judged-read trace k left = rw (lt-leb (length trace) (place trace k) left) refl
 
 -- be it an event
 pub judged-found : (trace : List ℕ) (k next : ℕ) (e : Event) → place trace k < length trace → readingAt trace (place trace k) ≡ Found e next
     → (verdict trace k ≡ firstBroken (rules (events trace) k)) × (events trace k ≡ e) × (place trace (suc k) ≡ next)
-unfolding judged events place
-judged-found trace k next e left read = (judged-read trace k left ∙ ap (judged (events trace) k) read, ap eventIn read, ap placeAfter read)
+unfolding byReading events place
+judged-found trace k next e left read = (judged-read trace k left ∙ ap (byReading (events trace) k) read, ap eventIn read, ap placeAfter read)
 
 -- or none.
 pub judged-refused : (trace : List ℕ) (k at : ℕ) (why : Refusal) → place trace k < length trace
     → readingAt trace (place trace k) ≡ Refused why at → verdict trace k ≡ stops (codeOf why)
-unfolding judged
-judged-refused trace k at why left read = judged-read trace k left ∙ ap (judged (events trace) k) read
+unfolding byReading
+judged-refused trace k at why left read = judged-read trace k left ∙ ap (byReading (events trace) k) read
 
 -- ---- An accepted event ------------------------------------------------------------------------------------------------------------------------
 

@@ -14,13 +14,13 @@ use Rattle.kept.specs.declared.Entry.{Entry}
 use Rattle.kept.specs.Lists.{In, sumBelow}
 use Rattle.kept.specs.Theorem.{AllDifferent}
 use Rattle.checker.specs.Events.{place, events, acts, held, entryOf, run}
-use Rattle.checker.specs.Rules.{goes-on, stops, verdict}
+use Rattle.checker.specs.Rules.{goes-on, stops, verdict, AcceptedBefore}
 use Rattle.checker.specs.Report.{Race, found, laid}
 use Rattle.checker.specs.Call.{Lent, Left, unread, codeAlone, clearedRoom}
 
 -- Demand 1. Each refusal is given exactly when its rule says: every event before n is accepted, and at n the rules say c.
 pub record Stops (trace : List ℕ) (n c : ℕ) : Type 0 where
-  pub accepted-before : (k : ℕ) → k < n → verdict trace k ≡ goes-on
+  pub accepted-before : AcceptedBefore trace n
   pub stops-there : verdict trace n ≡ stops c
 
 -- What every lent buffer then holds is laid down, and what was reported before that place stands.

@@ -1,13 +1,12 @@
 -- The events of a trace by their numbers, and what stands before each: the locks held, the accesses, the lists kept.
 use Prim.Native.Nat.{ℕ, zero, suc, max}
-use mathlib.Core.Bool.{Bool, cond}
+use mathlib.Core.Bool.{cond}
 use mathlib.Core.List.{List}
-use lib.Dec.{eqb}
 use lib.ListN.{length}
 use Rattle.trace.specs.declared.Event.{Event}
 use Rattle.trace.specs.declared.Reading.{Reading}
 use Rattle.trace.specs.declared.Reading.the-variants.{Found, Refused}
-use Rattle.trace.specs.Kinds.{reserved, isAccess, isRead, location}
+use Rattle.trace.specs.Kinds.{isSpawn, isReturn, isSync, isLocking, isUnlocking, reserved, isAccess, isRead, location}
 use Rattle.trace.specs.Events.{readingAt}
 use Rattle.locks.specs.Sets.{none, taken, released, setOfAccess, count}
 use Rattle.bags.specs.Parallel.{Act, spawn, return, sync, other, maker}
@@ -34,23 +33,7 @@ place trace (suc k) = placeAfter (readingAt trace (place trace k))
 unfoldable pub events : List ℕ → ℕ → Event
 events trace k = eventIn (readingAt trace (place trace k))
 
--- The kinds by their names.
-abbrev pub isSpawn : Event → Bool
-isSpawn e = eqb (e .kind) 0
-
-abbrev pub isReturn : Event → Bool
-isReturn e = eqb (e .kind) 1
-
-abbrev pub isSync : Event → Bool
-isSync e = eqb (e .kind) 2
-
-abbrev pub isLocking : Event → Bool
-isLocking e = eqb (e .kind) 3
-
-abbrev pub isUnlocking : Event → Bool
-isUnlocking e = eqb (e .kind) 4
-
--- Of all this the bags know spawn, return and sync.
+-- Of the kinds the bags know spawn, return and sync.
 unfoldable pub actOf : Event → Act
 actOf e = cond (isSpawn e) spawn (cond (isReturn e) return (cond (isSync e) sync other))
 

@@ -8,7 +8,7 @@ use lib.Dec.{leb, ltb}
 use lib.ListN.{length, set}
 use Rattle.trace.specs.declared.Event.{Event}
 use Rattle.trace.specs.declared.Reading.the-variants.{Found}
-use Rattle.trace.specs.Kinds.{lawfulHolding}
+use Rattle.trace.specs.Kinds.{isLocking, isUnlocking, lawfulHolding}
 use Rattle.trace.specs.Events.{readingAt}
 use Rattle.locks.specs.declared.Held.{Held}
 use Rattle.locks.specs.Sets.{isIn, isEmpty, count}
@@ -23,17 +23,14 @@ use Rattle.kept.specs.Theorem.{kept}
 use Rattle.kept.specs.Pieces.{Pieces, pieceSize, RestKept, Room as ListsRoom}
 use Rattle.kept.specs.Holds.{Holds as ListsHold, RestsKept}
 use Rattle.checker.specs.declared.Answer.{Answer}
+use Rattle.checker.specs.declared.Counts.{Counts}
 use Rattle.checker.specs.declared.State.{State}
 use Rattle.checker.specs.declared.Stepped.{Stepped}
 use Rattle.checker.specs.declared.Stepped.the-variants.{Next, Stop}
-use Rattle.checker.specs.Events.{place, events, isLocking, isUnlocking, acts, held, most, run, visits}
-use Rattle.checker.specs.Rules.{goes-on, stops, verdict}
+use Rattle.checker.specs.Events.{place, events, acts, held, most, run, visits}
+use Rattle.checker.specs.Rules.{goes-on, stops, verdict, AcceptedBefore}
 use Rattle.checker.specs.Report.{Race, found, laid}
 use Rattle.checker.specs.Call.{mostBytes}
-
--- Every event before n is accepted.
-abbrev pub AcceptedBefore : List ℕ → ℕ → Type 0
-AcceptedBefore trace n = (k : ℕ) → k < n → verdict trace k ≡ goes-on
 
 -- The state and the pieces as they stand before event k: each part is what the definitions say.
 pub record Stands (trace : List ℕ) (k : ℕ) (s : State) (p : Pieces) (starts joins : List ℕ) : Type 0 where
@@ -68,7 +65,8 @@ pub record ComesNext (trace : List ℕ) (s : State) (p : Pieces) (starts joins :
   pub read : readingAt trace (s .at) ≡ Found e next
   pub passes : refusal e (s .held .bits) (ltb 0 (s .pairs .count)) ≡ 0
 
--- More visits than this are never counted.
+-- More visits than this are never counted: the longest trace has so many events, each with a byte at least, and a list has at most as many entries as
+-- there were events before. It is the square of the longest trace's length.
 abbrev pub mostVisits : ℕ
 mostVisits = 281474976710656
 
@@ -98,38 +96,14 @@ module _ (trace : List ℕ) (k : ℕ) (report : List ℕ) (p : Pieces) (starts j
   AfterStep (Next s′) = GoesOn s′
   AfterStep (Stop c) = IsRefused c
 
--- The state after an event, the place of the next one being `next`: the bags changed; the locks held changed; or an access counted.
-abbrev pub withBags : State → ℕ → Pairs → State
-withBags s next pairs = record {
-  at = next;
-  held = s .held;
-  pairs = pairs;
-  slots = s .slots;
-  counts = record { events = s .counts .events + 1; races = s .counts .races; visits = s .counts .visits; most = s .counts .most };
-}
+-- The counts after an event, given how many accesses are reported then, the visits more, and the locks held then; and the state, given the place of the
+-- next event and what the layers below made of theirs.
+abbrev pub countsAfter : Counts → ℕ → ℕ → Held → Counts
+countsAfter c races more set = record { events = c .events + 1; races = races; visits = c .visits + more; most = max (c .most) (count (set .bits)) }
 
-abbrev pub withHeld : State → ℕ → Held → State
-withHeld s next set = record {
-  at = next;
-  held = set;
-  pairs = s .pairs;
-  slots = s .slots;
-  counts = record {
-    events = s .counts .events + 1;
-    races = s .counts .races;
-    visits = s .counts .visits;
-    most = max (s .counts .most) (count (set .bits));
-  };
-}
-
-abbrev pub withAccess : State → ℕ → Slots → ℕ → ℕ → State
-withAccess s next slots races visits = record {
-  at = next;
-  held = s .held;
-  pairs = s .pairs;
-  slots = slots;
-  counts = record { events = s .counts .events + 1; races = races; visits = s .counts .visits + visits; most = s .counts .most };
-}
+abbrev pub stateAfter : State → ℕ → Held → Pairs → Slots → ℕ → ℕ → State
+stateAfter s next set pairs slots races more =
+    record { at = next; held = set; pairs = pairs; slots = slots; counts = countsAfter (s .counts) races more set }
 
 -- The race that an access is reported with, if an entry is named.
 abbrev pub raceNamed : ℕ → Entry → Named → List Race

@@ -16,7 +16,8 @@ ghost use Rattle.checker.specs.Rules.{stop};
 ghost use Rattle.checker.specs.Report.{found, laid};
 ghost use Rattle.checker.specs.Call.{room, lent, left, anyShort, mostBytes, codeAlone, answer};
 ghost use Rattle.checker.specs.Contract.{Contract};
-ghost use Rattle.checker.specs.Steps.{refusal, Stands, ComesNext, Safe, AfterStep, withBags, withHeld, withAccess, raceNamed, writtenAt, written, mostVisits, AllRestsKept, answerWith};
+ghost use Rattle.checker.specs.Steps.{Stands, AllRestsKept, refusal, ComesNext, mostVisits, Safe, AfterStep};
+ghost use Rattle.checker.specs.Steps.{countsAfter, stateAfter, raceNamed, writtenAt, written, answerWith};
 use bags::Spawned;
 use bags::ask::Pairs;
 use bags::begin;
@@ -36,7 +37,12 @@ use kept::empty_lists;
 use locks::Held;
 use trace::Event;
 use trace::EventNumber;
+use trace::LOCK;
+use trace::RETURN;
 use trace::Reading;
+use trace::SPAWN;
+use trace::SYNC;
+use trace::UNLOCK;
 use trace::read_event;
 
 // The size of each piece of working room, in numbers.
@@ -46,7 +52,7 @@ pub const PIECE: usize = 4096;
 pub const MOST_BYTES: usize = 16777216;
 
 // The numbers of an entry of the report: location, earlier event, later event.
-const NUMBERS: usize = 3;
+pub const NUMBERS: usize = 3;
 
 // What the call returns: the code, the events accepted, the first byte not accepted (or the length), the accesses reported, the
 // visits in all, and the most locks held at one moment.
@@ -83,16 +89,28 @@ enum Stepped {
     Stop(u32),
 }
 
-// The kinds that are no access.
-const SPAWN: u32 = 0;
+// The codes by their numbers; 3 to 6 are the reader's.
+const ACCEPTED: u32 = 0;
 
-const RETURN: u32 = 1;
+const ROOM_SHORT: u32 = 1;
 
-const SYNC: u32 = 2;
+const TRACE_LONG: u32 = 2;
 
-const LOCK: u32 = 3;
+const AFTER_MAIN: u32 = 7;
 
-const UNLOCK: u32 = 4;
+const HOLDING: u32 = 8;
+
+const HELD_ALREADY: u32 = 9;
+
+const NOT_HELD: u32 = 10;
+
+const PROCEDURES_MANY: u32 = 11;
+
+const IN_NO_BAG: u32 = 12;
+
+const ENTRIES_MANY: u32 = 13;
+
+const UNFINISHED: u32 = 14;
 
 // The call: reads a trace, reports the races in it, and returns the code and the counts. Any bytes, any lengths, and whatever the
 // room holds.
@@ -124,10 +142,10 @@ pub fn check(
         | (starts.len() < PIECE)
         | (joins.len() < PIECE);
     if short {
-        return refuse(1);
+        return refuse(ROOM_SHORT);
     }
     if MOST_BYTES < trace.len() {
-        return refuse(2);
+        return refuse(TRACE_LONG);
     }
     let answer = examine(
         trace,
@@ -219,7 +237,7 @@ fn examine(
         }
     }
     let pairs = state.pairs;
-    state.answer(pick(main_is_open(pairs), 14, 0))
+    state.answer(pick(main_is_open(pairs), UNFINISHED, ACCEPTED))
 }
 
 // One event: it is read, tested against the rules, and brought in.
@@ -252,11 +270,11 @@ fn step(
         Reading::Refused(why, _) => Stepped::Stop(why.code()),
         Reading::Found(event, next) => {
             let code = refusal(event, held, main_is_open(pairs));
-            if code != 0 {
+            if code != ACCEPTED {
                 return Stepped::Stop(code);
             }
             if event.is_access() {
-                return reach(
+                return bring_access(
                     state,
                     event,
                     next,
@@ -270,12 +288,12 @@ fn step(
                     joins,
                 );
             }
-            follow(state, event, next, starts, joins)
+            bring_other(state, event, next, starts, joins)
         }
     }
 }
 
-// The code, of 7 to 10, that an event is refused with, or 0.
+// The code, of 7 to 10, that an event is refused with, or 0. The tests are made from the last to the first, so that the first decides.
 fn refusal(event: Event, held: Held, running: bool) -> u32
     ensures { λ r. ⌜ r ≡ refusal event (held .bits) running ⌝ }
 {
@@ -285,21 +303,28 @@ fn refusal(event: Event, held: Held, running: bool) -> u32
     let again = (kind == LOCK) & held.has(lock);
     let missing = (kind == UNLOCK) & !held.has(lock);
     let after = !running;
-    pick(
-        after,
-        7,
-        pick(unlawful, 8, pick(again, 9, pick(missing, 10, 0))),
-    )
+    let unlock = pick(missing, NOT_HELD, ACCEPTED);
+    let either = pick(again, HELD_ALREADY, unlock);
+    let held = pick(unlawful, HOLDING, either);
+    pick(after, AFTER_MAIN, held)
 }
 
 // An event that is no access, and that codes 7 to 10 let pass.
-fn follow(state: State, event: Event, next: usize, starts: &mut [u32], joins: &mut [u32]) -> Stepped
+fn bring_other(
+    state: State,
+    event: Event,
+    next: usize,
+    starts: &mut [u32],
+    joins: &mut [u32],
+) -> Stepped
     requires { ⌜ BagsRoom (now starts) (now joins) (state .pairs) ⌝ }
     requires { ⌜ state .counts .events < mostBytes ⌝ }
+    requires { ⌜ state .counts .visits ≤ mostVisits ⌝ }
     requires { ⌜ isAccess event ≡ false ⌝ }
     ensures { λ r.
         ⌜ ((trace report : List ℕ) (p : Pieces) → ComesNext trace state p (now (starts .entry)) (now (joins .entry)) event next
-        → AfterStep trace (state .counts .events) report p (now (starts .entry)) (now (joins .entry)) report p (now (starts .exit)) (now (joins .exit)) r) ⌝ }
+        → AfterStep trace (state .counts .events) report p (now (starts .entry)) (now (joins .entry)) report p (now (starts .exit))
+        (now (joins .exit)) r) ⌝ }
 {
     let kind = event.kind;
     let lock = event.operand;
@@ -307,25 +332,25 @@ fn follow(state: State, event: Event, next: usize, starts: &mut [u32], joins: &m
     let pairs = state.pairs;
     if kind == SPAWN {
         return match spawn(pairs, starts, joins) {
-            Spawned::Begun(then) => Stepped::Next(state.with_bags(next, then)),
-            Spawned::Full => Stepped::Stop(11),
+            Spawned::Begun(then) => Stepped::Next(state.after_other(next, held, then)),
+            Spawned::Full => Stepped::Stop(PROCEDURES_MANY),
         };
     }
     if kind == RETURN {
-        return Stepped::Next(state.with_bags(next, returns(pairs)));
+        return Stepped::Next(state.after_other(next, held, returns(pairs)));
     }
     if kind == SYNC {
         sync(pairs, joins);
-        return Stepped::Next(state.with_bags(next, pairs));
+        return Stepped::Next(state.after_other(next, held, pairs));
     }
     if kind == LOCK {
-        return Stepped::Next(state.with_held(next, held.take(lock)));
+        return Stepped::Next(state.after_other(next, held.take(lock), pairs));
     }
-    Stepped::Next(state.with_held(next, held.release(lock)))
+    Stepped::Next(state.after_other(next, held.release(lock), pairs))
 }
 
 // An access that codes 7 to 10 let pass.
-fn reach(
+fn bring_access(
     state: State,
     event: Event,
     next: usize,
@@ -376,10 +401,10 @@ fn reach(
     ) {
         Accessed::Done(then, visits, race) => {
             let races = note(report, counts.races, location, entry, race);
-            Stepped::Next(state.with_access(next, then, races, visits))
+            Stepped::Next(state.after(next, held, pairs, then, races, visits))
         }
-        Accessed::InNoBag => Stepped::Stop(12),
-        Accessed::Full => Stepped::Stop(13),
+        Accessed::InNoBag => Stepped::Stop(IN_NO_BAG),
+        Accessed::Full => Stepped::Stop(ENTRIES_MANY),
     }
 }
 
@@ -411,7 +436,59 @@ fn write(report: &mut [u32], races: u32, location: u32, earlier: EventNumber, la
     }
 }
 
+impl Counts {
+    // The counts after an accepted event: so many accesses are reported then, so many visits came to them, and these locks are held.
+    fn after(self, races: u32, visits: u32, held: Held) -> Counts
+        requires { ⌜ self .events < mostBytes ⌝ }
+        requires { ⌜ self .visits ≤ mostVisits ⌝ }
+        ensures { λ r. ⌜ r ≡ countsAfter self races visits held ⌝ }
+    {
+        Counts {
+            events: self.events + 1,
+            races: races,
+            visits: self.visits + visits as u64,
+            most: larger(self.most, held.count()),
+        }
+    }
+}
+
 impl State {
+    // The state after an accepted event: the place of the next one, and what each layer made of its part.
+    fn after(
+        self,
+        next: usize,
+        held: Held,
+        pairs: Pairs,
+        slots: Slots,
+        races: u32,
+        visits: u32,
+    ) -> State
+        requires { ⌜ self .counts .events < mostBytes ⌝ }
+        requires { ⌜ self .counts .visits ≤ mostVisits ⌝ }
+        ensures { λ r. ⌜ r ≡ stateAfter self next held pairs slots races visits ⌝ }
+    {
+        let counts = self.counts;
+        let then = counts.after(races, visits, held);
+        State {
+            at: next,
+            held: held,
+            pairs: pairs,
+            slots: slots,
+            counts: then,
+        }
+    }
+
+    // The state after an accepted event that is no access: nothing is kept, visited or reported anew.
+    fn after_other(self, next: usize, held: Held, pairs: Pairs) -> State
+        requires { ⌜ self .counts .events < mostBytes ⌝ }
+        requires { ⌜ self .counts .visits ≤ mostVisits ⌝ }
+        ensures { λ r. ⌜ r ≡ stateAfter self next held pairs (self .slots) (self .counts .races) 0 ⌝ }
+    {
+        let slots = self.slots;
+        let counts = self.counts;
+        self.after(next, held, pairs, slots, counts.races, 0)
+    }
+
     // The answer with this code, the counts being as they stand.
     fn answer(self, code: u32) -> Answer
         ensures { λ r. ⌜ r ≡ answerWith code self ⌝ }
@@ -424,73 +501,6 @@ impl State {
             races: counts.races,
             visits: counts.visits,
             most: counts.most,
-        }
-    }
-
-    // The state after an event that changed the bags.
-    fn with_bags(self, next: usize, pairs: Pairs) -> State
-        requires { ⌜ self .counts .events < mostBytes ⌝ }
-        ensures { λ r. ⌜ r ≡ withBags self next pairs ⌝ }
-    {
-        let held = self.held;
-        let slots = self.slots;
-        let counts = self.counts;
-        State {
-            at: next,
-            held: held,
-            pairs: pairs,
-            slots: slots,
-            counts: Counts {
-                events: counts.events + 1,
-                races: counts.races,
-                visits: counts.visits,
-                most: counts.most,
-            },
-        }
-    }
-
-    // The state after a lock was taken or released.
-    fn with_held(self, next: usize, held: Held) -> State
-        requires { ⌜ self .counts .events < mostBytes ⌝ }
-        ensures { λ r. ⌜ r ≡ withHeld self next held ⌝ }
-    {
-        let pairs = self.pairs;
-        let slots = self.slots;
-        let counts = self.counts;
-        State {
-            at: next,
-            held: held,
-            pairs: pairs,
-            slots: slots,
-            counts: Counts {
-                events: counts.events + 1,
-                races: counts.races,
-                visits: counts.visits,
-                most: larger(counts.most, held.count()),
-            },
-        }
-    }
-
-    // The state after an access, which made so many visits.
-    fn with_access(self, next: usize, slots: Slots, races: u32, visits: u32) -> State
-        requires { ⌜ self .counts .events < mostBytes ⌝ }
-        requires { ⌜ self .counts .visits ≤ mostVisits ⌝ }
-        ensures { λ r. ⌜ r ≡ withAccess self next slots races visits ⌝ }
-    {
-        let held = self.held;
-        let pairs = self.pairs;
-        let counts = self.counts;
-        State {
-            at: next,
-            held: held,
-            pairs: pairs,
-            slots: slots,
-            counts: Counts {
-                events: counts.events + 1,
-                races: races,
-                visits: counts.visits + visits as u64,
-                most: counts.most,
-            },
         }
     }
 }

@@ -3,6 +3,7 @@ ghost use Prim.Native.Nat.{_≤_};
 ghost use lib.ListN.{length};
 ghost use Rattle.io.specs.Counts.{Counts};
 use checker::Answer;
+use checker::NUMBERS;
 use checker::PIECE;
 use libc::STDIN_FILENO;
 use libc::STDOUT_FILENO;
@@ -12,9 +13,6 @@ const MOST_BYTES: usize = 65536;
 
 // The most race lines that are printed.
 const MOST_LINES: usize = 1024;
-
-// The numbers of an entry of the report.
-const NUMBERS: usize = 3;
 
 // Room for a line, in bytes. The longest there can be, six numbers with all their digits, has 123.
 const LINE_BYTES: usize = 128;

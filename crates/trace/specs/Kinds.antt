@@ -22,6 +22,22 @@ kinds =
     (4095 ∷ 1 ∷ 1 ∷ 0 ∷ []) ∷  -- write
     (0 ∷ 0 ∷ 0 ∷ 0 ∷ []) ∷ []  -- reserved
 
+-- The kinds by the event's name, those of the accesses aside, which the table tells.
+abbrev pub isSpawn : Event → Bool
+isSpawn e = eqb (e .kind) 0
+
+abbrev pub isReturn : Event → Bool
+isReturn e = eqb (e .kind) 1
+
+abbrev pub isSync : Event → Bool
+isSync e = eqb (e .kind) 2
+
+abbrev pub isLocking : Event → Bool
+isLocking e = eqb (e .kind) 3
+
+abbrev pub isUnlocking : Event → Bool
+isUnlocking e = eqb (e .kind) 4
+
 abbrev pub reserved : ℕ
 reserved = 7
 

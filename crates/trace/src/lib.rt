@@ -9,7 +9,17 @@ ghost use Rattle.trace.specs.Events.{codeOf, readingAt};
 // A number has at most this many groups of seven bits.
 pub const MOST_GROUPS: usize = 3;
 
-// The kind that no event may have.
+// The kinds that are no access, and the one that no event may have.
+pub const SPAWN: u32 = 0;
+
+pub const RETURN: u32 = 1;
+
+pub const SYNC: u32 = 2;
+
+pub const LOCK: u32 = 3;
+
+pub const UNLOCK: u32 = 4;
+
 pub const RESERVED: u32 = 7;
 
 // A row for each kind: largest operand, lawful with a lock held, access, read mark.

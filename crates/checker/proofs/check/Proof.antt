@@ -1,4 +1,4 @@
--- `check` refuses, or reads the trace and clears the room: each way out is a law of `Meeting`. Assumes nothing.
+-- `check` refuses, or reads the trace and clears the room: each way out is a law of `ContractMet`. Assumes nothing.
 use Prim.Native.Nat.{_≤_}
 use mathlib.Core.Path.{_≡_}
 use mathlib.Core.Bool.{false}
@@ -6,7 +6,8 @@ use borrow.Author.Needs.{needs}
 use lib.ListN.{length}
 use Rattle.kept.specs.Pieces.{Pieces, pieces, pieceSize, Fits}
 use Rattle.checker.specs.Call.{WorkingRoom, room, anyShort}
-use Rattle.checker.proofs.Meeting.{short-refused, long-refused, room-fits, fits-still, read-and-cleared}
+use Rattle.checker.proofs.Rests.{fits-still}
+use Rattle.checker.proofs.ContractMet.{short-refused, long-refused, room-fits, read-and-cleared}
 use Rattle.checker.proofs.check.Statement.{statement}
 use Rattle.checker.proofs.check.Tie as tie
 

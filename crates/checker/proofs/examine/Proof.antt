@@ -6,8 +6,9 @@ use borrow.Author.Needs.{needs}
 use lib.ListN.{length}
 use Rattle.kept.specs.Pieces.{Pieces, pieces}
 use Rattle.checker.specs.Steps.{AllRestsKept, AfterStep}
+use Rattle.checker.proofs.Rests.{rests-kept-on}
 use Rattle.checker.proofs.Writing.{laid-length}
-use Rattle.checker.proofs.Going.{Going, going-first, rests-at-first, rests-kept-on, going-on, nearer-the-end, Answered, stopped, at-the-end}
+use Rattle.checker.proofs.Loop.{Going, going-first, rests-at-first, going-on, nearer-the-end, Answered, stopped, at-the-end}
 use Rattle.checker.proofs.examine.Statement.{statement}
 use Rattle.checker.proofs.examine.Tie as tie
 
@@ -94,7 +95,8 @@ empty-lists-requires c κs = search needs
 loop-holds : tie.Need-loop-holds Inv-loop μ-loop
 loop-holds c =
     let emptied = c .before .before .empty-lists .ensures in
-    going-first (lent c) _ _ _ _ _ _ (start c .pre .0) (begun c .begin .ensures .1 .1 .1) (emptied .1) _ _ _ _ (begun c .before .before .before .none .ensures)
+    going-first (lent c) _ _ _ _ _ _ (start c .pre .0) (begun c .begin .ensures .1 .1 .1) (emptied .1) _ _ _ _
+    (begun c .before .before .before .none .ensures)
     (emptied .0)
 
 step-requires : tie.Need-step-requires Inv-loop μ-loop

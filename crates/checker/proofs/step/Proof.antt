@@ -1,4 +1,4 @@
--- `step` reads an event and tests it; `reach` and `follow` bring it in. Assumes nothing.
+-- `step` reads an event and tests it; `bring_access` and `bring_other` bring it in. Assumes nothing.
 use Prim.Native.Nat.{ℕ}
 use mathlib.Core.Path.{_≡_, sym, ap, _∙_}
 use borrow.Author.Needs.{needs}
@@ -75,8 +75,8 @@ returns c =
 is-access-requires : tie.Need-is-access-requires
 is-access-requires c κs = search needs
 
-reach-requires : tie.Need-reach-requires
-reach-requires c κs =
+bring-access-requires : tie.Need-bring-access-requires
+bring-access-requires c κs =
     let test = c .before .before .before .before .before .before .before .before in
     let passed = test .before .before in
     let access = sym (test .before .is-access .ensures) ∙ test .if2 .taken in
@@ -110,13 +110,13 @@ returns-2 : tie.Need-returns-2
 returns-2 c =
     let reached = c .before .before .before .before .before .before .before .before .before .before .before .before in
     let test = reached .before .before .before .before .before .before .before .before .before in
-    reached .reach .ensures _ (comes (test .before .before))
+    reached .bring-access .ensures _ (comes (test .before .before))
 
-follow-requires : tie.Need-follow-requires
-follow-requires c κs =
+bring-other-requires : tie.Need-bring-other-requires
+bring-other-requires c κs =
     let test = c .before .before in
     let passed = test .before .before in
-    (safe passed .bags-room, (safe passed .events-small, sym (test .before .is-access .ensures) ∙ test .if2 .left))
+    (safe passed .bags-room, (safe passed .events-small, (safe passed .visits-small, sym (test .before .is-access .ensures) ∙ test .if2 .left)))
 
 returns-3 : tie.Need-returns-3
 returns-3 c =
@@ -134,7 +134,7 @@ returns-4 : tie.Need-returns-4
 returns-4 c =
     let followed = c .before .before .before .before in
     let test = followed .before .before .before in
-    followed .follow .ensures _ _ _ (comes (test .before .before))
+    followed .bring-other .ensures _ _ _ (comes (test .before .before))
 
 pub step-spec : {M : Type 1} → statement M
 step-spec =
@@ -148,7 +148,7 @@ step-spec =
     refusal-requires
     returns
     is-access-requires
-    reach-requires
+    bring-access-requires
     same-length
     same-length-2
     same-length-3
@@ -158,7 +158,7 @@ step-spec =
     same-length-7
     same-length-8
     returns-2
-    follow-requires
+    bring-other-requires
     returns-3
     same-length-9
     same-length-10

@@ -4,16 +4,15 @@
 -- lock sets have nothing in common exactly if no lock is shared and one of the two writes. Assumes nothing.
 use Prim.Native.Nat.{ℕ, _<_}
 use mathlib.Core.Path.{_≡_, refl, sym, ap, _∙_}
-use mathlib.Core.Logic.{_≢_}
-use mathlib.Core.Bool.{Bool, true, false, cond, not, _&&_, and-eq-true-iff, true≢false}
+use mathlib.Core.Bool.{true, not, _&&_, and-eq-true-iff}
 use mathlib.Core.List.{List}
 use native.Mathlib.Omega.{arith}
 use lib.ListN.{length}
-use borrow.Author.Tests.{eqb-true, not-true}
+use borrow.Author.Tests.{not-true}
 use Rattle.trace.specs.declared.Event.{Event}
-use Rattle.trace.specs.Kinds.{entry, isAccess, isRead, location}
+use Rattle.trace.specs.Kinds.{isAccess, isRead, location}
 use Rattle.locks.specs.Sets.{apart}
-use Rattle.bags.specs.Parallel.{spawn, return, sync, other, mainOpen}
+use Rattle.bags.specs.Parallel.{mainOpen}
 use Rattle.bags.specs.Bags.{bagsSayParallel}
 use Rattle.bags.specs.Theorems.{Askable}
 use Rattle.bags.proofs.Laws as bags
@@ -21,9 +20,10 @@ use Rattle.kept.specs.declared.Entry.{Entry}
 use Rattle.kept.specs.Lists.{In}
 use Rattle.kept.specs.Theorem.{Run, visited, setsUsed, Earlier, Race, parallelTo, Lawful, KeptSuffices}
 use Rattle.kept.proofs.Laws.{kept-suffices}
-use Rattle.checker.specs.Events.{isSpawn, isReturn, isSync, actOf, acts, held, entryOf, run, visitsAt, visits}
+use Rattle.checker.specs.Events.{acts, held, entryOf, run, visitsAt, visits}
 use Rattle.checker.specs.Report.{Race as Found, found, laid}
 use Rattle.checker.specs.Demands.{Races, raceOf, Demand2, DifferentSets, Demand3, BagsAgree}
+use Rattle.checker.proofs.AccessKinds.{access-is-no-return}
 use Rattle.checker.proofs.Holding.{sets-apart}
 use Rattle.checker.proofs.Shortened.{shortened, access-before, before-access, kept-shortened}
 use Rattle.checker.proofs.Finding.{reported-names, named-is-in, Names, raceNaming, found-has, has-found, found-rises}
@@ -31,23 +31,6 @@ use Rattle.checker.proofs.Finding.{reported-names, named-is-in, Names, 
 -- Main is open before every event below n.
 abbrev pub MainOpenBefore : (ℕ → Event) → ℕ → Type 0
 MainOpenBefore t n = (k : ℕ) → k < n → mainOpen (acts t) k ≡ true
-
--- ---- an access is no return
-
-pub access-is-no-return : (e : Event) → isAccess e ≡ true → actOf e ≢ return
-unfolding actOf entry
-access-is-no-return e access returns = by-kind (isSpawn e) (isReturn e) (isSync e) refl returns
-  where
-    -- The row of returns says no access.
-    no-access : isReturn e ≡ true → ⊥
-    no-access is = true≢false (sym access ∙ ap (λ (kind : ℕ). isAccess (record { kind = kind; operand = e .operand })) (eqb-true (e .kind) 1 is))
-
-    by-kind : (is-spawn is-return is-sync : Bool) → isReturn e ≡ is-return
-        → cond is-spawn spawn (cond is-return return (cond is-sync sync other)) ≡ return → ⊥
-    by-kind true is-return is-sync is q = let z : _≡_ {A = ℕ} 0 1 = cc in omega arith
-    by-kind false true is-sync is q = no-access is
-    by-kind false false true is q = let z : _≡_ {A = ℕ} 0 1 = cc in omega arith
-    by-kind false false false is q = let z : _≡_ {A = ℕ} 0 1 = cc in omega arith
 
 -- ---- the run before n
 

@@ -15,13 +15,14 @@ use Rattle.checker.specs.declared.Answer.{Answer}
 use Rattle.checker.specs.Events.{events, run}
 use Rattle.checker.specs.Rules.{Verdict, goes-on, stops, firstBroken, stop}
 use Rattle.checker.specs.Report.{found, laid}
-use Rattle.checker.specs.Call.{WorkingRoom, room, Lent, Left, lent, left, anyShort, mostBytes, unread, answer, codeAlone, clearedRoom, outcomeAfter, outcome}
+use Rattle.checker.specs.Call.{WorkingRoom, room, Lent, Left, lent, left, anyShort, mostBytes, unread, answer, codeAlone, clearedRoom}
+use Rattle.checker.specs.Call.{outcomeAfter, outcome}
 use Rattle.checker.specs.Demands.{Demand2, Demand3, BagsAgree}
 use Rattle.checker.specs.Contract.{Contract}
 use Rattle.checker.specs.Steps.{AllRestsKept}
 use Rattle.checker.proofs.Stopping.{accepted-means, stops-somewhere}
-use Rattle.checker.proofs.Demand1.{demand1-met}
-use Rattle.checker.proofs.Demands.{MainOpenBefore, demand2-met, demand3-met, bags-agree-met}
+use Rattle.checker.proofs.DemandOne.{demand1-met}
+use Rattle.checker.proofs.DemandsTwoAndThree.{MainOpenBefore, demand2-met, demand3-met, bags-agree-met}
 
 -- ---- The definitions meet the contract --------------------------------------------------------------------------------------------------------
 
@@ -45,7 +46,8 @@ outcome-meets l = record {
   bags-agree = agree (unread l);
 }
   where
-    two : (v : Verdict) → Demand2 (events (l .trace)) (outcomeAfter v l .answer .events) (l .report) (outcomeAfter v l .answer .races) (outcomeAfter v l .report)
+    two : (v : Verdict)
+        → Demand2 (events (l .trace)) (outcomeAfter v l .answer .events) (l .report) (outcomeAfter v l .answer .races) (outcomeAfter v l .report)
     two goes-on = demand2-met (events (l .trace)) (stop (l .trace)) (main-open-until (l .trace)) (l .report)
     two (stops c) = demand2-met (events (l .trace)) 0 (nothing-asked (l .trace)) (l .report)
 
@@ -102,24 +104,9 @@ room-fits r fits =
       ltb-false _ _ (but-joins .1),
     )
 
--- And it still is, once what lies past the used part was kept.
-pub fits-still : (p p′ : Pieces) (starts joins starts′ joins′ : List ℕ) → Fits p × (pieceSize ≤ length starts) × (pieceSize ≤ length joins)
-    → AllRestsKept p starts joins p′ starts′ joins′ → Fits p′ × (pieceSize ≤ length starts′) × (pieceSize ≤ length joins′)
-fits-still p p′ starts joins starts′ joins′ fits rests =
-    let lists = rests .lists-rest in (
-      record {
-        heads-fit = omega (arith, fits .0 .heads-fit, lists .heads .same-length);
-        links-fit = omega (arith, fits .0 .links-fit, lists .links .same-length);
-        events-fit = omega (arith, fits .0 .events-fit, lists .events .same-length);
-        procedures-fit = omega (arith, fits .0 .procedures-fit, lists .procedures .same-length);
-        sets-fit = omega (arith, fits .0 .sets-fit, lists .sets .same-length);
-      },
-      omega (arith, fits .1, rests .starts-rest .same-length),
-      omega (arith, fits .2, rests .joins-rest .same-length),
-    )
-
 -- Read, and the room cleared: what clearing makes of a piece does not depend on what its used part held.
-module _ (trace report report′ : List ℕ) (p p′ : Pieces) (starts joins starts′ joins′ : List ℕ) (rests : AllRestsKept p starts joins p′ starts′ joins′) where
+module _ (trace report report′ : List ℕ) (p p′ : Pieces) (starts joins starts′ joins′ : List ℕ)
+    (rests : AllRestsKept p starts joins p′ starts′ joins′) where
   abbrev before : WorkingRoom
   before = room (p .heads) (p .links) (p .events) (p .procedures) (p .sets) starts joins
 
@@ -147,5 +134,6 @@ module _ (trace report report′ : List ℕ) (p p′ : Pieces) (starts joins sta
       → Contract (lent trace report before) (left a report′ (room heads links events′ procedures sets starts″ joins″))
   unfolding unread firstBroken outcomeAfter
   read-and-cleared a heads links events′ procedures sets starts″ joins″ fits short is laid-so h l e pr s st j =
-      meets (lent trace report before) goes-on (left a report′ (room heads links events′ procedures sets starts″ joins″)) (rw (fits, le-ltb _ _ short) refl)
+      meets (lent trace report before) goes-on (left a report′ (room heads links events′ procedures sets starts″ joins″))
+      (rw (fits, le-ltb _ _ short) refl)
       (rw (is, laid-so, h, l, e, pr, s, st, j) (ap (left (answer trace) _) room-cleared))

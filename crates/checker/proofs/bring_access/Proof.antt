@@ -1,4 +1,4 @@
--- `reach` brings in an access: each way out is a law of `Bringing`. Assumes nothing.
+-- `bring_access` brings in an access: each way out is a law of `Bringing`. Assumes nothing.
 use Prim.Native.Nat.{ℕ}
 use mathlib.Core.Path.{_≡_, ap, _∙_}
 use mathlib.Core.Bool.{Bool}
@@ -10,8 +10,8 @@ use Rattle.kept.specs.Pieces.{Pieces, pieces}
 use Rattle.checker.specs.Events.{events, entryOf}
 use Rattle.checker.specs.Steps.{ComesNext, Safe}
 use Rattle.checker.proofs.Bringing.{entry-told, stray-refused, full-refused, access-goes-on}
-use Rattle.checker.proofs.reach.Statement.{statement}
-use Rattle.checker.proofs.reach.Tie as tie
+use Rattle.checker.proofs.bring_access.Statement.{statement}
+use Rattle.checker.proofs.bring_access.Tie as tie
 
 -- What was given, and the pieces of the lists as they were lent.
 abbrev start : tie.After-set-of-access → tie.Start
@@ -65,8 +65,8 @@ note-requires c κs =
     let here = made (called (c .before .before .before .before)) in
     omega (arith, safe here .races-small, safe here .events-small)
 
-with-access-requires : tie.Need-with-access-requires
-with-access-requires c κs =
+after-requires : tie.Need-after-requires
+after-requires c κs =
     let here = made (called (c .before .before .before .before .before .before .before)) in
     (safe here .events-small, safe here .visits-small)
 
@@ -83,7 +83,7 @@ same-length-2 : tie.Need-same-length-2
 same-length-2 c = called (c .before .before .before .before .before .before .before .before) .access .kept .0
 
 same-length-3 : tie.Need-same-length-3
-same-length-3 c = search needs
+same-length-3 c = called (c .before .before .before .before .before .before .before .before) .access .kept .1 .0
 
 same-length-4 : tie.Need-same-length-4
 same-length-4 c = search needs
@@ -100,7 +100,7 @@ returns c =
     let case = noted .before .before .before in
     let call = called (case .before .before) in
     let here = made call in
-    λ trace n. rw (c .with-access .ensures)
+    λ trace n. rw (c .after .ensures)
     (access-goes-on trace _ _ _ _ _ _ _ n _ (here .before .before .before .location .ensures) _ (ours here trace n) (start here .pre .1 .0)
     (rw (here .before .before .before .location .ensures) (start here .pre .1 .1)) _ _ (call .access .ensures .0) (call .access .ensures .1 .1) _ _ _ _ _
     (case .then .given .1) (noted .note .ensures .0) (noted .note .ensures .1))
@@ -125,7 +125,8 @@ returns-2 c =
     let call = called (c .before .before) in
     let here = made call in
     λ trace n. stray-refused trace _ _ _ _ _ _ _ n _ (here .before .before .before .location .ensures) _ (ours here trace n) (start here .pre .1 .0)
-    (rw (here .before .before .before .location .ensures) (start here .pre .1 .1)) _ _ (call .access .ensures .0) (call .access .ensures .1 .1) (c .enum-told .given .1)
+    (rw (here .before .before .before .location .ensures) (start here .pre .1 .1)) _ _ (call .access .ensures .0) (call .access .ensures .1 .1)
+    (c .enum-told .given .1)
 
 same-length-12 : tie.Need-same-length-12
 same-length-12 c = search needs
@@ -147,10 +148,11 @@ returns-3 c =
     let call = called (c .before .before) in
     let here = made call in
     λ trace n. full-refused trace _ _ _ _ _ _ _ n _ (here .before .before .before .location .ensures) _ (ours here trace n) (start here .pre .1 .0)
-    (rw (here .before .before .before .location .ensures) (start here .pre .1 .1)) _ _ (call .access .ensures .0) (call .access .ensures .1 .1) (c .enum-told2 .given .1)
+    (rw (here .before .before .before .location .ensures) (start here .pre .1 .1)) _ _ (call .access .ensures .0) (call .access .ensures .1 .1)
+    (c .enum-told2 .given .1)
 
-pub reach-spec : {M : Type 1} → statement M
-reach-spec =
+pub bring-access-spec : {M : Type 1} → statement M
+bring-access-spec =
     tie.close
     (tie.spec
     location-requires
@@ -160,7 +162,7 @@ reach-spec =
     access-requires
     enum-known-then
     note-requires
-    with-access-requires
+    after-requires
     enum-told
     enum-told-2
     same-length

@@ -23,26 +23,7 @@ use Rattle.checker.specs.Report.{found, laid}
 use Rattle.checker.specs.Call.{answer}
 use Rattle.checker.specs.Steps.{Stands, AllRestsKept, GoesOn, IsRefused, answerWith}
 use Rattle.checker.proofs.Stopping.{judged-ended, place-grows, stops-at}
-use Rattle.checker.proofs.Bringing.{as-it-is, all-as-they-are}
-
--- ---- What is kept of the pieces ---------------------------------------------------------------------------------------------------------------
-
-pub rests-kept-on : (p p′ p″ : Pieces) (starts joins starts′ joins′ starts″ joins″ : List ℕ) → AllRestsKept p starts joins p′ starts′ joins′
-    → AllRestsKept p′ starts′ joins′ p″ starts″ joins″ → AllRestsKept p starts joins p″ starts″ joins″
-rests-kept-on p p′ p″ starts joins starts′ joins′ starts″ joins″ one two =
-    let first = one .lists-rest in
-    let second = two .lists-rest in
-    record {
-      lists-rest = record {
-        heads = lists.rest-kept-on _ _ _ _ (first .heads) (second .heads);
-        links = lists.rest-kept-on _ _ _ _ (first .links) (second .links);
-        events = lists.rest-kept-on _ _ _ _ (first .events) (second .events);
-        procedures = lists.rest-kept-on _ _ _ _ (first .procedures) (second .procedures);
-        sets = lists.rest-kept-on _ _ _ _ (first .sets) (second .sets);
-      };
-      starts-rest = lists.rest-kept-on _ _ _ _ (one .starts-rest) (two .starts-rest);
-      joins-rest = lists.rest-kept-on _ _ _ _ (one .joins-rest) (two .joins-rest);
-    }
+use Rattle.checker.proofs.Rests.{as-it-is, all-as-they-are, rests-kept-on}
 
 -- ---- The invariant ----------------------------------------------------------------------------------------------------------------------------
 
