@@ -30,18 +30,16 @@ unfoldable pub firstBroken : List (Bool × ℕ) → Verdict
 firstBroken [] = goes-on
 firstBroken (rule ∷ rules) = cond (rule .0) (stops (rule .1)) (firstBroken rules)
 
--- The rules of codes 7 to 13, in the order in which they are tested, for event k: an event after main's return; spawn, return or sync with a lock
--- held; lock already held; unlock of a lock not held; spawn when 4,096 procedures have begun, main counted; an entry kept for the accessed location has
--- its procedure in no bag; after the rules above more than 4,096 entries would be kept in all (in the lists of all 4,096 locations).
+-- The rules of codes 7 to 13 for event k, in the order in which they are tested. Entries kept in all are those of the lists of all 4,096 locations.
 unfoldable pub rules : (ℕ → Event) → ℕ → List (Bool × ℕ)
 rules t k =
-    (not (mainOpen (acts t) k), 7) ∷
-    (not (lawfulHolding (t k)) && not (isEmpty (held t k)), 8) ∷
-    (isLocking (t k) && isIn (t k .operand) (held t k), 9) ∷
-    (isUnlocking (t k) && not (isIn (t k .operand) (held t k)), 10) ∷
-    (isSpawn (t k) && leb mostBegun (begun (acts t) k), 11) ∷
-    (isAccess (t k) && any (inNoBag (bags (acts t) k)) (visited (run t) k), 12) ∷
-    (isAccess (t k) && ltb pieceSize (inAll pieceSize (kept (run t) (suc k))), 13) ∷ []
+    (not (mainOpen (acts t) k), 7) ∷  -- an event after main's return
+    (not (lawfulHolding (t k)) && not (isEmpty (held t k)), 8) ∷  -- spawn, return or sync with a lock held
+    (isLocking (t k) && isIn (t k .operand) (held t k), 9) ∷  -- lock already held
+    (isUnlocking (t k) && not (isIn (t k .operand) (held t k)), 10) ∷  -- unlock of a lock not held
+    (isSpawn (t k) && leb mostBegun (begun (acts t) k), 11) ∷  -- spawn when 4,096 procedures have begun, main counted
+    (isAccess (t k) && any (inNoBag (bags (acts t) k)) (visited (run t) k), 12) ∷  -- an entry kept for the accessed location has its procedure in no bag
+    (isAccess (t k) && ltb pieceSize (inAll pieceSize (kept (run t) (suc k))), 13) ∷ []  -- after the rules above more than 4,096 entries would be kept in all
 
 -- By what was read at the place of event k: codes 3 to 6, or an event for the rules above.
 unfoldable pub byReading : (ℕ → Event) → ℕ → Reading → Verdict
@@ -61,6 +59,7 @@ verdict trace k =
 abbrev pub AcceptedBefore : List ℕ → ℕ → Type 0
 AcceptedBefore trace n = (k : ℕ) → k < n → verdict trace k ≡ goes-on
 
+-- Is the event accepted?
 abbrev pub accepts : Verdict → Bool
 accepts goes-on = true
 accepts (stops c) = false
