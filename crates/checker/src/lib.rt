@@ -56,6 +56,7 @@ pub const NUMBERS: usize = 3;
 
 // What the call returns: the code, the events accepted, the first byte not accepted (or the length), the accesses reported, the
 // visits in all, and the most locks held at one moment.
+#[repr(C)]
 pub struct Answer {
     pub code: u32,
     pub events: u32,
