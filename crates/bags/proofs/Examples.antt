@@ -144,24 +144,39 @@ abbrev answers : List ℕ → List ℕ → Pairs → List ℕ → List Answer
 answers starts joins pairs = map (λ (p : ℕ). answerFor p (bagsIn starts joins pairs))
 
 -- Main has spawned 1, which has spawned 2 and 3; 2 has returned, and 3 runs. Then 3 has returned too and 1 has synced.
+abbrev three-runs : Pairs
+three-runs = record { count = 3; begun = 4; start = 3; join = 4 }
+
+abbrev one-synced : Pairs
+one-synced = record { count = 2; begun = 4; start = 1; join = 4 }
+
+-- Five procedures, each spawned by the one before, all open.
+abbrev five-open : Pairs
+five-open = record { count = 5; begun = 5; start = 4; join = 5 }
+
+-- One more may begin, and none.
+abbrev one-left : Pairs
+one-left = record { count = 2; begun = 4095; start = 1; join = 2 }
+
+abbrev none-left : Pairs
+none-left = record { count = 2; begun = 4096; start = 1; join = 2 }
+
 pub pieces-as-known :
-    (bagsIn (0 ∷ 1 ∷ 3 ∷ []) (1 ∷ 2 ∷ 4 ∷ []) (record { count = 3; begun = 4 })
+    (bagsIn (0 ∷ 1 ∷ 3 ∷ []) (1 ∷ 2 ∷ 4 ∷ []) three-runs
     ≡ record { owner = 3; S = 3 ∷ []; P = [] } ∷ record { owner = 1; S = 1 ∷ []; P = 2 ∷ [] } ∷ record { owner = 0; S = 0 ∷ []; P = [] } ∷ [])
-    × (answers (0 ∷ 1 ∷ 3 ∷ []) (1 ∷ 2 ∷ 4 ∷ []) (record { count = 3; begun = 4 }) (0 ∷ 1 ∷ 2 ∷ 3 ∷ 4 ∷ [])
+    × (answers (0 ∷ 1 ∷ 3 ∷ []) (1 ∷ 2 ∷ 4 ∷ []) three-runs (0 ∷ 1 ∷ 2 ∷ 3 ∷ 4 ∷ [])
     ≡ InSeries ∷ InSeries ∷ InParallel ∷ InSeries ∷ InNoBag ∷ [])
-    × (answers (0 ∷ 1 ∷ 3 ∷ []) (1 ∷ 4 ∷ 4 ∷ []) (record { count = 2; begun = 4 }) (0 ∷ 1 ∷ 2 ∷ 3 ∷ 4 ∷ [])
+    × (answers (0 ∷ 1 ∷ 3 ∷ []) (1 ∷ 4 ∷ 4 ∷ []) one-synced (0 ∷ 1 ∷ 2 ∷ 3 ∷ 4 ∷ [])
     ≡ InSeries ∷ InSeries ∷ InSeries ∷ InSeries ∷ InNoBag ∷ [])
-    × (runner (bagsIn (0 ∷ 1 ∷ 3 ∷ []) (1 ∷ 2 ∷ 4 ∷ []) (record { count = 3; begun = 4 })) ≡ 3)
-    × (inSomeBag 3 (bagsIn (0 ∷ 1 ∷ 3 ∷ []) (1 ∷ 2 ∷ 4 ∷ []) (record { count = 3; begun = 4 })) ≡ true)
-    × (inSomeBag 4 (bagsIn (0 ∷ 1 ∷ 3 ∷ []) (1 ∷ 2 ∷ 4 ∷ []) (record { count = 3; begun = 4 })) ≡ false)
-    -- Five procedures, each spawned by the one before, all open.
-    × (answers (0 ∷ 1 ∷ 2 ∷ 3 ∷ 4 ∷ []) (1 ∷ 2 ∷ 3 ∷ 4 ∷ 5 ∷ []) (record { count = 5; begun = 5 }) (0 ∷ 1 ∷ 2 ∷ 3 ∷ 4 ∷ 5 ∷ [])
+    × (runner (bagsIn (0 ∷ 1 ∷ 3 ∷ []) (1 ∷ 2 ∷ 4 ∷ []) three-runs) ≡ 3)
+    × (inSomeBag 3 (bagsIn (0 ∷ 1 ∷ 3 ∷ []) (1 ∷ 2 ∷ 4 ∷ []) three-runs) ≡ true)
+    × (inSomeBag 4 (bagsIn (0 ∷ 1 ∷ 3 ∷ []) (1 ∷ 2 ∷ 4 ∷ []) three-runs) ≡ false)
+    × (answers (0 ∷ 1 ∷ 2 ∷ 3 ∷ 4 ∷ []) (1 ∷ 2 ∷ 3 ∷ 4 ∷ 5 ∷ []) five-open (0 ∷ 1 ∷ 2 ∷ 3 ∷ 4 ∷ 5 ∷ [])
     ≡ InSeries ∷ InSeries ∷ InSeries ∷ InSeries ∷ InSeries ∷ InNoBag ∷ [])
-    -- The last procedure that may begin, and the first that may not.
-    × (spawned (record { count = 2; begun = 4095 }) ≡ Begun (record { count = 3; begun = 4096 }))
-    × (spawned (record { count = 2; begun = 4096 }) ≡ Full)
-    × (pushed (record { count = 2; begun = 4095 }) 7 (0 ∷ 1 ∷ 3 ∷ []) ≡ 0 ∷ 1 ∷ 7 ∷ [])
-    × (pushed (record { count = 2; begun = 4096 }) 7 (0 ∷ 1 ∷ 3 ∷ []) ≡ 0 ∷ 1 ∷ 3 ∷ [])
+    × (spawned one-left ≡ Begun (record { count = 3; begun = 4096; start = 4095; join = 4096 }))
+    × (spawned none-left ≡ Full)
+    × (pushed one-left 7 (0 ∷ 1 ∷ 3 ∷ []) ≡ 0 ∷ 1 ∷ 7 ∷ [])
+    × (pushed none-left 7 (0 ∷ 1 ∷ 3 ∷ []) ≡ 0 ∷ 1 ∷ 3 ∷ [])
 unfolding member inSBag inPBag numbersFrom run asBags pairsIn bagsIn answerFor inSomeBag runner headD spawned pushed
 pieces-as-known = (refl, refl, refl, refl, refl, refl, refl, refl, refl, refl, refl)
 
@@ -171,38 +186,46 @@ pieces-as-known = (refl, refl, refl, refl, refl, refl, refl, refl, refl, refl, r
 module _ (more more′ : List ℕ) where
   -- 1 has returned to main, and 2 runs and syncs. A sync that also clears the children of the caller's parents, or main's instead of the caller's,
   -- takes 1 out of main's P-bag.
-  abbrev two-open : Pairs
-  two-open = record { count = 2; begun = 3 }
+  abbrev two-runs : Pairs
+  two-runs = record { count = 2; begun = 3; start = 2; join = 3 }
 
-  pub parents-cleared : Carries sync (0 ∷ 2 ∷ more) (1 ∷ 3 ∷ more′) two-open (0 ∷ 2 ∷ more) (2 ∷ 3 ∷ more′) two-open → ⊥
+  pub parents-cleared : Carries sync (0 ∷ 2 ∷ more) (1 ∷ 3 ∷ more′) two-runs (0 ∷ 2 ∷ more) (2 ∷ 3 ∷ more′) two-runs → ⊥
   unfolding member synced bagsAfter inPBag numbersFrom run asBags pairsIn bagsIn
   parents-cleared c = true≢false (sym (ap (inPBag 1) (c .bags)))
 
-  pub mains-cleared : Carries sync (0 ∷ 2 ∷ more) (1 ∷ 3 ∷ more′) two-open (0 ∷ 2 ∷ more) (3 ∷ 3 ∷ more′) two-open → ⊥
+  pub mains-cleared : Carries sync (0 ∷ 2 ∷ more) (1 ∷ 3 ∷ more′) two-runs (0 ∷ 2 ∷ more) (3 ∷ 3 ∷ more′) two-runs → ⊥
   unfolding member synced bagsAfter inPBag numbersFrom run asBags pairsIn bagsIn
   mains-cleared c = true≢false (sym (ap (inPBag 1) (c .bags)))
 
   -- 1 has spawned 2, which has returned to it, and returns itself. A return without the implied sync hands over the S-bag alone, and 2 is lost: the
   -- pieces could say so only by one procedure less.
   pub lost-at-return :
-      Carries return (0 ∷ 1 ∷ more) (1 ∷ 2 ∷ more′) two-open (0 ∷ 1 ∷ more) (1 ∷ 2 ∷ more′) (record { count = 1; begun = 2 }) → ⊥
+      Carries return (0 ∷ 1 ∷ more) (1 ∷ 2 ∷ more′) (record { count = 2; begun = 3; start = 1; join = 2 }) (0 ∷ 1 ∷ more) (1 ∷ 2 ∷ more′)
+      (record { count = 1; begun = 2; start = 0; join = 1 }) → ⊥
   unfolding member synced handed bagsAfter inPBag numbersFrom run asBags pairsIn bagsIn
   lost-at-return c = true≢false (sym (ap (inPBag 2) (c .bags)))
 
-  -- 1 returns to main. If its pair stays, it runs on.
-  pub pair-kept :
-      Carries return (0 ∷ 1 ∷ more) (1 ∷ 2 ∷ more′) (record { count = 2; begun = 2 }) (0 ∷ 1 ∷ more) (1 ∷ 2 ∷ more′)
-      (record { count = 2; begun = 2 }) → ⊥
+  -- 1 returns to main. If its pair stays, it runs on; if it stays at hand, what is at hand is not the last pair.
+  abbrev one-runs : Pairs
+  one-runs = record { count = 2; begun = 2; start = 1; join = 2 }
+
+  pub pair-kept : Carries return (0 ∷ 1 ∷ more) (1 ∷ 2 ∷ more′) one-runs (0 ∷ 1 ∷ more) (1 ∷ 2 ∷ more′) one-runs → ⊥
   unfolding synced handed bagsAfter numbersFrom run asBags pairsIn bagsIn runner headD
   pair-kept c = let z : _≡_ {A = ℕ} 1 0 = ap runner (c .bags) in omega arith
 
+  pub pair-kept-at-hand :
+      Carries return (0 ∷ 1 ∷ more) (1 ∷ 2 ∷ more′) one-runs (0 ∷ 1 ∷ more) (1 ∷ 2 ∷ more′) (record { count = 1; begun = 2; start = 1; join = 2 }) → ⊥
+  pair-kept-at-hand c = let z : _≡_ {A = ℕ} 1 0 = c .room-after (omega arith) .top-start in omega arith
+
   -- Main spawns 1, or begins. A join that is not past the start puts the new procedure into its own P-bag.
+  abbrev main-runs : Pairs
+  main-runs = record { count = 1; begun = 1; start = 0; join = 1 }
+
   pub new-in-own-P-bag :
-      Carries spawn (0 ∷ 9 ∷ more) (1 ∷ 9 ∷ more′) (record { count = 1; begun = 1 }) (0 ∷ 1 ∷ more) (1 ∷ 1 ∷ more′)
-      (record { count = 2; begun = 2 }) → ⊥
+      Carries spawn (0 ∷ 9 ∷ more) (1 ∷ 9 ∷ more′) main-runs (0 ∷ 1 ∷ more) (1 ∷ 1 ∷ more′) (record { count = 2; begun = 2; start = 1; join = 1 }) → ⊥
   unfolding member bagsOfNew bagsAfter inPBag numbersFrom run asBags pairsIn bagsIn
   new-in-own-P-bag c = true≢false (ap (inPBag 1) (c .bags))
 
-  pub main-in-own-P-bag : Begins (9 ∷ more) (9 ∷ more′) (0 ∷ more) (0 ∷ more′) (record { count = 1; begun = 1 }) → ⊥
+  pub main-in-own-P-bag : Begins (9 ∷ more) (9 ∷ more′) (0 ∷ more) (0 ∷ more′) (record { count = 1; begun = 1; start = 0; join = 0 }) → ⊥
   unfolding member bagsOfNew inPBag numbersFrom run asBags pairsIn bagsIn
   main-in-own-P-bag b = true≢false (ap (inPBag 0) (b .bags))

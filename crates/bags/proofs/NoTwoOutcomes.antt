@@ -1,7 +1,7 @@
 -- No two outcomes satisfy the contract of a public function of `bags`, each contract taken as the source states it: it says what the result equals, and
 -- each piece at exit. Assumes nothing.
 use Prim.Native.Nat.{ℕ}
-use mathlib.Core.Path.{_≡_, refl, sym, ap, _∙_}
+use mathlib.Core.Path.{_≡_, sym, ap, _∙_}
 use denote.Ref.{now}
 use Rattle.outcome.specs.Outcome.{OneResult, OneLeft}
 use Rattle.bags.specs.declared.ask.ProcedureNumber.{ProcedureNumber}
@@ -41,8 +41,8 @@ no-two-outcomes = record {
   spawn = λ κ a x y s s′ p q. p .0 ∙ sym (q .0);
   spawn-starts = λ κ a x y s s′ p q. p .1 .1 .0 ∙ sym (q .1 .1 .0);
   spawn-joins = λ κ a x y s s′ p q. p .1 .1 .1 .0 ∙ sym (q .1 .1 .1 .0);
-  sync = λ κ a x y s s′ p q. refl;
-  sync-joins = λ κ a x y s s′ p q. p .0 ∙ sym (q .0);
+  sync = λ κ a x y s s′ p q. p .0 ∙ sym (q .0);
+  sync-joins = λ κ a x y s s′ p q. p .1 .0 ∙ sym (q .1 .0);
   returns = λ κ a x y s s′ p q. p .0 ∙ sym (q .0);
   running = λ κ a x y s s′ p q. same-procedure (p .0) (q .0);
   main-is-open = λ κ a x y s s′ p q. p ∙ sym q;

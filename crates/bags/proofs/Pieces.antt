@@ -9,7 +9,7 @@ use native.Mathlib.Omega.{arith}
 use native.Mathlib.Decide.{decLt}
 use lib.Dec.{eqb, ltb, leb}
 use lib.ListN.{length, getD, set, length-set}
-use borrow.Author.Tests.{lt-ltb, le-ltb, lt-leb, le-leb}
+use borrow.Author.Tests.{lt-ltb, le-ltb}
 use lib.Seq.{getD-set-same, getD-set-other, drop-set-lt}
 use Rattle.bags.specs.declared.ask.Pairs.{Pairs}
 use Rattle.bags.specs.declared.ask.Answer.{Answer}
@@ -90,13 +90,14 @@ untouched piece = record { same-length = refl; same-rest = refl }
 stored : (piece : List ℕ) (d x : ℕ) → d < pieceSize → Kept piece (set piece d x)
 stored piece d x h = record { same-length = length-set piece d x; same-rest = drop-set-lt pieceSize piece d x h }
 
--- Where the pairs go forward as an event says, so do the bags.
+-- Where the pairs go forward as an event says, so do the bags, if the last pair is at hand then too.
 carried : (act : Act) (starts joins starts′ joins′ : List ℕ) (pairs pairs′ : Pairs) → Room starts joins pairs
     → Kept starts starts′ → Kept joins joins′ → pairs′ .count ≤ pieceSize → pairs′ .begun ≡ begunAfter act (pairs .begun)
     → pairsIn starts′ joins′ (pairs′ .count) ≡ pairsAfter act (pairs .begun) (pairsIn starts joins (pairs .count))
+    → pairs′ .start ≡ getD starts′ (pairs′ .count - 1) 0 → pairs′ .join ≡ getD joins′ (pairs′ .count - 1) 0
     → Carries act starts joins pairs starts′ joins′ pairs′
 unfolding bagsIn
-carried act starts joins starts′ joins′ pairs pairs′ h kept-starts kept-joins few n e = record {
+carried act starts joins starts′ joins′ pairs pairs′ h kept-starts kept-joins few n e start join = record {
   begun-after = n;
   bags = ap₂ asBags e n ∙ bags-after act (pairs .begun) (pairsIn starts joins (pairs .count)) (h .in-order);
   room-after = λ some. record {
@@ -106,6 +107,8 @@ carried act starts joins starts′ joins′ pairs pairs′ h kept-starts kept-jo
     main-open = some;
     in-order = rw e (rw n (in-order-after act (pairs .begun) (pairsIn starts joins (pairs .count)) (h .in-order)
         (λ none. some-pair starts′ joins′ (pairs′ .count) some (e ∙ none))));
+    top-start = start;
+    top-join = join;
   };
   starts-rest = kept-starts .same-rest;
   joins-rest = kept-joins .same-rest;
@@ -118,7 +121,7 @@ pairs-begun starts joins zero n h = omega arith
 pairs-begun starts joins (suc d) n h = omega (arith, pairs-begun starts joins d (getD starts d 0) (h .2))
 
 pub begins : (starts joins : List ℕ) → pieceSize ≤ length starts → pieceSize ≤ length joins
-    → Begins starts joins (set starts 0 0) (set joins 0 1) (record { count = 1; begun = 1 })
+    → Begins starts joins (set starts 0 0) (set joins 0 1) (record { count = 1; begun = 1; start = 0; join = 1 })
 unfolding bagsIn pairsIn asBags run numbersFrom bagsOfNew InOrder
 begins starts joins h l =
     let first : getD (set starts 0 0) 0 0 ≡ 0 = getD-set-same starts 0 0 0 (omega arith) in
@@ -134,6 +137,8 @@ begins starts joins h l =
         pairs-fit = omega arith;
         main-open = omega arith;
         in-order = (omega arith, omega arith, first);
+        top-start = sym first;
+        top-join = sym second;
       };
       starts-rest = kept-starts .same-rest;
       joins-rest = kept-joins .same-rest;
@@ -150,16 +155,23 @@ room-left starts joins pairs h few =
     let few-pairs : pairs .count ≤ pairs .begun = pairs-begun starts joins (pairs .count) (pairs .begun) (h .in-order) in
     record { small = omega arith; in-starts = omega (arith, h .starts-fit); in-joins = omega (arith, h .joins-fit) }
 
+-- A number stored on top is the last one then.
+last-stored : (piece : List ℕ) (d x : ℕ) → d < length piece → x ≡ getD (set piece d x) (suc d - 1) 0
+last-stored piece d x h = rw (one-less d) (sym (getD-set-same piece d x 0 h))
+
+-- The pairs with a new one, which is at hand.
+abbrev with-new : Pairs → Pairs
+with-new pairs = record { count = suc (pairs .count); begun = suc (pairs .begun); start = pairs .begun; join = suc (pairs .begun) }
+
 spawns : (starts joins : List ℕ) (pairs : Pairs) → Room starts joins pairs → pairs .begun < mostBegun
-    → Carries spawn starts joins pairs (set starts (pairs .count) (pairs .begun)) (set joins (pairs .count) (suc (pairs .begun)))
-    (record { count = suc (pairs .count); begun = suc (pairs .begun) })
+    → Carries spawn starts joins pairs (set starts (pairs .count) (pairs .begun)) (set joins (pairs .count) (suc (pairs .begun))) (with-new pairs)
 unfolding begunAfter
 spawns starts joins pairs h few =
     let left : Free starts joins pairs = room-left starts joins pairs h few in
-    carried spawn starts joins (set starts (pairs .count) (pairs .begun)) (set joins (pairs .count) (suc (pairs .begun))) pairs
-    (record { count = suc (pairs .count); begun = suc (pairs .begun) }) h (stored starts (pairs .count) (pairs .begun) (left .small))
-    (stored joins (pairs .count) (suc (pairs .begun)) (left .small)) (left .small) refl
+    carried spawn starts joins (set starts (pairs .count) (pairs .begun)) (set joins (pairs .count) (suc (pairs .begun))) pairs (with-new pairs) h
+    (stored starts (pairs .count) (pairs .begun) (left .small)) (stored joins (pairs .count) (suc (pairs .begun)) (left .small)) (left .small) refl
     (pairs-spawned starts joins (pairs .count) (pairs .begun) (left .in-starts) (left .in-joins))
+    (last-stored starts (pairs .count) (pairs .begun) (left .in-starts)) (last-stored joins (pairs .count) (suc (pairs .begun)) (left .in-joins))
 
 -- What `spawn` promises of an answer and of the pieces that it leaves.
 abbrev pub Spawns : List ℕ → List ℕ → Pairs → List ℕ → List ℕ → Spawned → Type 0
@@ -176,26 +188,41 @@ spawn-refused starts joins pairs many = rw (le-ltb _ _ many) (refl, (refl, (refl
 
 pub spawn-begins : (starts joins : List ℕ) (pairs : Pairs) → Room starts joins pairs → pairs .begun < mostBegun
     → Spawns starts joins pairs (set starts (pairs .count) (pairs .begun)) (set joins (pairs .count) (pairs .begun + 1))
-    (Begun (record { count = pairs .count + 1; begun = pairs .begun + 1 }))
+    (Begun (record { count = pairs .count + 1; begun = pairs .begun + 1; start = pairs .begun; join = pairs .begun + 1 }))
 unfolding spawned pushed
 spawn-begins starts joins pairs h few =
     rw (lt-ltb _ _ few)
     (refl, (refl, (refl, (refl, (few, rw (one-more (pairs .count), one-more (pairs .begun)) (spawns starts joins pairs h few))))))
 
 pub syncs : (starts joins : List ℕ) (pairs : Pairs) → Room starts joins pairs
-    → Carries sync starts joins pairs starts (set joins (pairs .count - 1) (pairs .begun)) pairs
+    → Carries sync starts joins pairs starts (set joins (pairs .count - 1) (pairs .begun))
+    (record { count = pairs .count; begun = pairs .begun; start = pairs .start; join = pairs .begun })
 unfolding begunAfter
 syncs starts joins pairs h =
-    carried sync starts joins starts (set joins (pairs .count - 1) (pairs .begun)) pairs pairs h (untouched starts)
+    carried sync starts joins starts (set joins (pairs .count - 1) (pairs .begun)) pairs
+    (record { count = pairs .count; begun = pairs .begun; start = pairs .start; join = pairs .begun }) h (untouched starts)
     (stored joins (pairs .count - 1) (pairs .begun) (omega (arith, h .main-open, h .pairs-fit))) (h .pairs-fit) refl
-    (pairs-synced starts joins (pairs .count) (pairs .begun) (h .main-open) (omega (arith, h .joins-fit, h .pairs-fit)))
+    (pairs-synced starts joins (pairs .count) (pairs .begun) (h .main-open) (omega (arith, h .joins-fit, h .pairs-fit))) (h .top-start)
+    (sym (getD-set-same joins (pairs .count - 1) (pairs .begun) 0 (omega (arith, h .main-open, h .joins-fit, h .pairs-fit))))
 
-pub returned : (starts joins : List ℕ) (pairs : Pairs) → Room starts joins pairs
-    → Carries return starts joins pairs starts joins (record { count = pairs .count - 1; begun = pairs .begun })
+-- The pairs with one less, the one at place `at` at hand.
+abbrev pub back-to : List ℕ → List ℕ → Pairs → ℕ → Pairs
+back-to starts joins pairs at = record { count = pairs .count - 1; begun = pairs .begun; start = getD starts at 0; join = getD joins at 0 }
+
+returned : (starts joins : List ℕ) (pairs : Pairs) → Room starts joins pairs
+    → Carries return starts joins pairs starts joins (back-to starts joins pairs (pairs .count - 2))
 unfolding begunAfter
 returned starts joins pairs h =
-    carried return starts joins starts joins pairs (record { count = pairs .count - 1; begun = pairs .begun }) h (untouched starts) (untouched joins)
+    let below : pairs .count - 2 ≡ pairs .count - 1 - 1 = omega arith in
+    carried return starts joins starts joins pairs (back-to starts joins pairs (pairs .count - 2)) h (untouched starts) (untouched joins)
     (omega (arith, h .pairs-fit)) refl (pairs-returned starts joins (pairs .count) (pairs .begun) (h .main-open))
+    (ap (λ (i : ℕ). getD starts i 0) below) (ap (λ (i : ℕ). getD joins i 0) below)
+
+-- What `returns` promises, if it goes back to the pair below.
+pub goes-back : (starts joins : List ℕ) (pairs : Pairs) (at : ℕ) → at ≡ pairs .count - 2
+    → (back-to starts joins pairs at ≡ back-to starts joins pairs (pairs .count - 2))
+    × (Room starts joins pairs → Carries return starts joins pairs starts joins (back-to starts joins pairs at))
+goes-back starts joins pairs at e = rw e (refl, returned starts joins pairs)
 
 -- The top pair is the running procedure's.
 runner-on-top : (starts joins : List ℕ) (d n : ℕ) → 0 < d → runner (asBags (pairsIn starts joins d) n) ≡ getD starts (d - 1) 0
@@ -203,9 +230,9 @@ unfolding runner asBags pairsIn headD
 runner-on-top starts joins zero n some = absurd (omega arith)
 runner-on-top starts joins (suc d) n some = rw (one-less d) refl
 
-pub runner-held : (starts joins : List ℕ) (pairs : Pairs) → 0 < pairs .count → runner (bagsIn starts joins pairs) ≡ getD starts (pairs .count - 1) 0
+pub runner-held : (starts joins : List ℕ) (pairs : Pairs) → Room starts joins pairs → pairs .start ≡ runner (bagsIn starts joins pairs)
 unfolding bagsIn
-runner-held starts joins pairs some = runner-on-top starts joins (pairs .count) (pairs .begun) some
+runner-held starts joins pairs h = h .top-start ∙ sym (runner-on-top starts joins (pairs .count) (pairs .begun) (h .main-open))
 
 -- ---- The question -----------------------------------------------------------------------------------------------------------------------------
 
@@ -277,19 +304,53 @@ unfolding asBags pairsIn
 owners-counted starts joins zero n = refl
 owners-counted starts joins (suc d) n = ap suc (owners-counted starts joins d (getD starts d 0))
 
--- What the search asks for.
-pub searchable : (starts joins : List ℕ) (pairs : Pairs) (p : ℕ) → Room starts joins pairs
-    → (pairs .count - 1 < length starts) × ((pairs .count - 1 < pieceSize) × (getD starts 0 0 ≤ p))
-searchable starts joins pairs p h =
-    let lowest : getD starts 0 0 ≡ 0 = lowest-start starts joins (pairs .count) (pairs .begun) (h .in-order) (h .main-open) in
-    (omega (arith, h .main-open, h .pairs-fit, h .starts-fit), (omega (arith, h .main-open, h .pairs-fit), omega arith))
+-- The starts rise from 0, so each is at least its place.
+place-below-start : (starts joins : List ℕ) (d n i : ℕ) → InOrder (pairsIn starts joins d) n → i < d → i ≤ getD starts i 0
+unfolding InOrder pairsIn
+place-below-start starts joins zero n i h l = absurd (omega arith)
+place-below-start starts joins (suc d) n i h l =
+    elim (decLt i d) [
+      | yes below ↦ place-below-start starts joins d (getD starts d 0) i (h .2) below
+      | no top ↦ same i (omega arith)
+    ]
+  where
+    same : (i : ℕ) → i ≡ d → i ≤ getD starts i 0
+    same i e = rw e (pairs-begun starts joins d (getD starts d 0) (h .2))
 
--- The place that it finds lies in the joins.
-pub in-joins : (starts joins : List ℕ) (pairs : Pairs) (p at : ℕ) → Room starts joins pairs → Found starts (pairs .count - 1) p at
-    → (at < pieceSize) × (at < length joins)
-in-joins starts joins pairs p at h f =
-    let inside : pairs .count - 1 < pieceSize = searchable starts joins pairs p h .1 .0 in
-    (omega (arith, f .within), omega (arith, f .within, h .joins-fit))
+-- What the search asks for, the top pair starting above p.
+pub searchable : (starts joins : List ℕ) (pairs : Pairs) (p : ℕ) → Room starts joins pairs → p < pairs .start
+    → (pairs .count - 1 < length starts) × ((pairs .count - 1 < pieceSize) × ((getD starts 0 0 ≤ p)
+    × ((p < getD starts (pairs .count - 1) 0) × ((i : ℕ) → i ≤ pairs .count - 1 → i ≤ getD starts i 0))))
+searchable starts joins pairs p h above =
+    let lowest : getD starts 0 0 ≡ 0 = lowest-start starts joins (pairs .count) (pairs .begun) (h .in-order) (h .main-open) in (
+      omega (arith, h .main-open, h .pairs-fit, h .starts-fit),
+      (
+        omega (arith, h .main-open, h .pairs-fit),
+        (
+          omega arith,
+          (
+            omega (arith, h .top-start),
+            λ i l. place-below-start starts joins (pairs .count) (pairs .begun) i (h .in-order) (omega (arith, h .main-open)),
+          ),
+        ),
+      ),
+    )
+
+-- Yes or no: p is told by the join of the pair that holds it, which may be the last one, at hand.
+pub found-tells : (starts joins : List ℕ) (pairs : Pairs) (p at : ℕ) → Room starts joins pairs → p < pairs .begun → Found starts (pairs .count - 1) p at
+    → leb (getD joins at 0) p ≡ inPBag p (bagsIn starts joins pairs)
+unfolding bagsIn
+found-tells starts joins pairs p at h below f =
+    sym
+    (in-P-at starts joins (pairs .count) (pairs .begun) at p (h .in-order) (omega (arith, f .within, h .main-open)) (f .starts-below) below
+    (λ l. f .next-above (omega arith)))
+
+pub top-tells : (starts joins : List ℕ) (pairs : Pairs) (p : ℕ) → Room starts joins pairs → p < pairs .begun → pairs .start ≤ p
+    → leb (pairs .join) p ≡ inPBag p (bagsIn starts joins pairs)
+top-tells starts joins pairs p h below from =
+    ap (λ (join : ℕ). leb join p) (h .top-join)
+    ∙ found-tells starts joins pairs p (pairs .count - 1) h below
+    (record { within = omega arith; starts-below = omega (arith, h .top-start); next-above = λ l. absurd (omega arith) })
 
 -- What `ask` promises of an answer.
 abbrev pub Answers : List ℕ → List ℕ → Pairs → ℕ → Answer → Type 0
@@ -297,34 +358,24 @@ Answers starts joins pairs p answer =
     let bs = bagsIn starts joins pairs in
     (answer ≡ answerFor p bs) × ((saysParallel answer ≡ inPBag p bs) × (codeOf answer ≡ cond (inSomeBag p bs) 0 12))
 
--- The three answers.
+-- Its answers: p has not begun, or is in a P-bag or not.
 pub above-in-no-bag : (starts joins : List ℕ) (pairs : Pairs) (p : ℕ) → Room starts joins pairs → pairs .begun ≤ p → Answers starts joins pairs p InNoBag
 unfolding bagsIn answerFor inSomeBag
 above-in-no-bag starts joins pairs p h above =
     let none = in-none-above p (pairs .begun) (pairsIn starts joins (pairs .count)) (h .in-order) above in
     rw (ap (λ (u : ℕ × Bool × Bool). u .2) none, ap (λ (u : ℕ × Bool × Bool). u .1) none) (refl, (refl, refl))
 
-found-answer : (starts joins : List ℕ) (pairs : Pairs) (p at : ℕ) → Room starts joins pairs → p < pairs .begun → Found starts (pairs .count - 1) p at
-    → Answers starts joins pairs p (cond (leb (getD joins at 0) p) InParallel InSeries)
+pub told-answer : (starts joins : List ℕ) (pairs : Pairs) (p : ℕ) (says : Bool) → Room starts joins pairs → p < pairs .begun
+    → says ≡ inPBag p (bagsIn starts joins pairs) → Answers starts joins pairs p (cond says InParallel InSeries)
 unfolding bagsIn answerFor inSomeBag
-found-answer starts joins pairs p at h below f =
-    let yes-or-no = in-P-at starts joins (pairs .count) (pairs .begun) at p (h .in-order) (omega (arith, f .within, h .main-open)) (f .starts-below)
-    below (λ l. f .next-above (omega arith)) in
-    rw (in-S-or-P p (pairs .begun) (pairsIn starts joins (pairs .count)) (h .in-order) below, yes-or-no) (either (leb (getD joins at 0) p))
+told-answer starts joins pairs p says h below e =
+    rw (in-S-or-P p (pairs .begun) (pairsIn starts joins (pairs .count)) (h .in-order) below, sym e) (either says)
   where
     either : (b : Bool)
         → (cond b InParallel InSeries ≡ cond b InParallel (cond (not b) InSeries InNoBag))
         × ((saysParallel (cond b InParallel InSeries) ≡ b) × (codeOf (cond b InParallel InSeries) ≡ cond (not b || b) 0 12))
     either true = (refl, (refl, refl))
     either false = (refl, (refl, refl))
-
-pub found-parallel : (starts joins : List ℕ) (pairs : Pairs) (p at : ℕ) → Room starts joins pairs → p < pairs .begun
-    → Found starts (pairs .count - 1) p at → getD joins at 0 ≤ p → Answers starts joins pairs p InParallel
-found-parallel starts joins pairs p at h below f joined = rw (le-leb _ _ joined) at (found-answer starts joins pairs p at h below f)
-
-pub found-series : (starts joins : List ℕ) (pairs : Pairs) (p at : ℕ) → Room starts joins pairs → p < pairs .begun
-    → Found starts (pairs .count - 1) p at → p < getD joins at 0 → Answers starts joins pairs p InSeries
-found-series starts joins pairs p at h below f early = rw (lt-leb _ _ early) at (found-answer starts joins pairs p at h below f)
 
 -- Whoever has begun is in a bag, and nobody else.
 pub in-some : (starts joins : List ℕ) (pairs : Pairs) (p : ℕ) → Room starts joins pairs → ltb p (pairs .begun) ≡ inSomeBag p (bagsIn starts joins pairs)

@@ -1,44 +1,49 @@
--- The search inside `ask`: what is known around the place that is sought, kept at each step down and at each halving, until the place itself is
+-- The search inside `ask`: what is known around the place that is sought, kept at each place that is tried and at each halving, until the place itself is
 -- left. Assumes nothing.
-use Prim.Native.Nat.{ℕ, zero, suc, _+_, _-_, _*_, _/_, _≤_, _<_}
+use Prim.Native.Nat.{ℕ, zero, suc, _+_, _-_, _/_, _≤_, _<_, min}
 use mathlib.Core.Path.{_≡_}
 use mathlib.Core.List.{List}
 use native.Mathlib.Omega.{arith}
+use native.Mathlib.Decide.{decLt}
 use lib.ListN.{getD}
 use Rattle.bags.specs.Search.{Found, Bracketed}
 
--- ---- Steps down -------------------------------------------------------------------------------------------------------------------------------
+-- ---- One by one -------------------------------------------------------------------------------------------------------------------------------
 
--- The place that is sought lies below `high`, and a step is some places long.
-pub record Above (starts : List ℕ) (top p high step : ℕ) : Type 0 where
-  pub within : high ≤ top
-  pub lowest-below : getD starts 0 0 ≤ p
-  pub high-above : p < getD starts high 0
-  pub some : 0 < step
+-- The top pair starts above p, and so is not the lowest.
+pub some-below : (starts : List ℕ) (top p : ℕ) → getD starts 0 0 ≤ p → p < getD starts top 0 → 0 < top
+some-below starts zero p lowest above = absurd (omega arith)
+some-below starts (suc top) p lowest above = omega arith
 
-pub from-top : (starts : List ℕ) (top p : ℕ) → getD starts 0 0 ≤ p → p < getD starts top 0 → Above starts top p top 1
-from-top starts top p lowest above = record { within = omega arith; lowest-below = lowest; high-above = above; some = omega arith }
+-- The place that is sought is `at` or lies below it.
+pub record From (starts : List ℕ) (top p at : ℕ) : Type 0 where
+  pub within : at < top
+  pub next-above : p < getD starts (suc at) 0
 
--- A step that ends above it goes on from there,
-pub stepped : (starts : List ℕ) (top p high step : ℕ) → Above starts top p high step → step ≤ high → p < getD starts (high - step) 0
-    → Above starts top p (high - step) (step * 2)
-stepped starts top p high step h l above =
-    record { within = omega (arith, h .within); lowest-below = h .lowest-below; high-above = above; some = omega (arith, h .some) }
+-- At first: it lies below the top, and is at most p, since each pair's place is at most its start;
+pub from-first : (starts : List ℕ) (top p at : ℕ) → getD starts 0 0 ≤ p → p < getD starts top 0 → ((i : ℕ) → i ≤ top → i ≤ getD starts i 0)
+    → at ≡ min (top - 1) p → From starts top p at
+from-first starts top p at lowest above rise e =
+    let some : 0 < top = some-below starts top p lowest above in
+    elim (decLt p (top - 1)) [
+      | yes low ↦ record { within = omega arith; next-above = omega (arith, rise (suc at) (omega arith)) }
+      | no high ↦ let next : suc at ≡ top = omega arith in record { within = omega arith; next-above = rw next above }
+    ]
 
--- one that ends at or below it has it between its ends,
-pub met : (starts : List ℕ) (top p high step : ℕ) → Above starts top p high step → step ≤ high → getD starts (high - step) 0 ≤ p
-    → Bracketed starts top p (high - step) high
-met starts top p high step h l below =
-    record { apart = omega (arith, h .some); within = h .within; low-below = below; high-above = h .high-above }
+-- then one place down, where it was not at `at`.
+pub one-down : (starts : List ℕ) (top p at : ℕ) → From starts top p at → 0 < at → p < getD starts at 0 → From starts top p (at - 1)
+one-down starts top p at h some above =
+    let next : suc (at - 1) ≡ at = omega arith in
+    record { within = omega (arith, h .within); next-above = rw next above }
 
--- and so has the last, which would go below place 0.
-pub met-lowest : (starts : List ℕ) (top p high step : ℕ) → Above starts top p high step → Bracketed starts top p 0 high
-met-lowest starts top p high step h =
-    record { apart = positive high (h .high-above); within = h .within; low-below = h .lowest-below; high-above = h .high-above }
-  where
-    positive : (n : ℕ) → p < getD starts n 0 → 0 < n
-    positive zero above = absurd (omega (arith, h .lowest-below))
-    positive (suc n) above = omega arith
+-- Where it is at `at` it is found, and else it lies between place 0 and there.
+pub met : (starts : List ℕ) (top p at : ℕ) → From starts top p at → getD starts at 0 ≤ p → Found starts top p at
+met starts top p at h below = record { within = omega (arith, h .within); starts-below = below; next-above = λ l. h .next-above }
+
+pub left-below : (starts : List ℕ) (top p at : ℕ) → getD starts 0 0 ≤ p → From starts top p at → Bracketed starts top p 0 (at + 1)
+left-below starts top p at lowest h =
+    let next : at + 1 ≡ suc at = omega arith in
+    record { apart = omega arith; within = omega (arith, h .within); low-below = lowest; high-above = rw next (h .next-above) }
 
 -- ---- Halvings ---------------------------------------------------------------------------------------------------------------------------------
 

@@ -42,10 +42,12 @@ pieceSize = 4096
 unfoldable pub bagsIn : List ℕ → List ℕ → Pairs → List Bags
 bagsIn starts joins pairs = asBags (pairsIn starts joins (pairs .count)) (pairs .begun)
 
--- The pieces are long enough, and hold the bags of open procedures, main's among them.
+-- The pieces are long enough, and hold the bags of open procedures, main's among them; the last pair is at hand.
 pub record Room (starts joins : List ℕ) (pairs : Pairs) : Type 0 where
   pub starts-fit : pieceSize ≤ length starts
   pub joins-fit : pieceSize ≤ length joins
   pub pairs-fit : pairs .count ≤ pieceSize
   pub main-open : 0 < pairs .count
   pub in-order : InOrder (pairsIn starts joins (pairs .count)) (pairs .begun)
+  pub top-start : pairs .start ≡ getD starts (pairs .count - 1) 0
+  pub top-join : pairs .join ≡ getD joins (pairs .count - 1) 0

@@ -42,7 +42,9 @@ mostBegun = 4096
 
 -- What it gives: the pairs with one more, or the refusal.
 unfoldable pub spawned : Pairs → Spawned
-spawned pairs = cond (ltb (pairs .begun) mostBegun) (Begun (record { count = pairs .count + 1; begun = pairs .begun + 1 })) Full
+spawned pairs =
+    cond (ltb (pairs .begun) mostBegun)
+    (Begun (record { count = pairs .count + 1; begun = pairs .begun + 1; start = pairs .begun; join = pairs .begun + 1 })) Full
 
 -- The code of each, 0 where nothing is refused.
 abbrev pub codeOf : Spawned → ℕ

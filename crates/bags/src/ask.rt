@@ -10,14 +10,17 @@ ghost use Rattle.bags.specs.Runs.{pieceSize, bagsIn, Room};
 ghost use Rattle.bags.specs.Ask.{answerFor, saysParallel, codeOf};
 ghost use Rattle.bags.specs.Search.{Found, Bracketed};
 ghost use Rattle.bags.specs.Bags.{inPBag, inSomeBag};
+use super::smaller;
 
 // The number of a procedure, from 0 for main. It names a spawned body, and no place in the trace.
 pub struct ProcedureNumber(pub u32);
 
-// How many pairs the lent pieces hold, and how many procedures have begun.
+// How many pairs the lent pieces hold, how many procedures have begun, and the last pair, which is at hand here too.
 pub struct Pairs {
     pub count: usize,
     pub begun: u32,
+    pub start: u32,
+    pub join: u32,
 }
 
 // Where a procedure is.
@@ -26,6 +29,9 @@ pub enum Answer {
     InParallel,
     InNoBag,
 }
+
+// So many places are tried one by one.
+const NEAR: usize = 8;
 
 // Two places of the pairs, the one that is sought at the lower or between them.
 struct Bracket {
@@ -45,12 +51,25 @@ impl Pairs {
         if self.begun <= p {
             return Answer::InNoBag;
         }
-        let at = place_of(starts, self.count - 1, p);
-        if joins[at] <= p {
+        if self.is_parallel(starts, joins, procedure) {
             Answer::InParallel
         } else {
             Answer::InSeries
         }
+    }
+
+    // Is this procedure, which is in some bag, in parallel with what runs now?
+    fn is_parallel(self, starts: &[u32], joins: &[u32], procedure: ProcedureNumber) -> bool
+        requires { ⌜ Room (now starts) (now joins) self ⌝ }
+        requires { ⌜ procedure .0 < self .begun ⌝ }
+        ensures { λ r. ⌜ r ≡ inPBag (procedure .0) (bagsIn (now (starts .entry)) (now (joins .entry)) self) ⌝ }
+    {
+        let p = procedure.0;
+        if self.start <= p {
+            return self.join <= p;
+        }
+        let at = place_of(starts, self.count - 1, p);
+        joins[at] <= p
     }
 
     // Is this procedure in a bag at all?
@@ -62,43 +81,29 @@ impl Pairs {
     }
 }
 
-// The place of the last pair that starts at or below p, sought from `top` on downward: it is expected to be `top` itself, or close
-// to it.
+// The place of the last pair that starts at or below p, the pair at `top` starting above it. It is expected close to the top, so a
+// few places are tried one by one. It is at most p, and so, in a chain of nested spawns, the first that is tried.
 fn place_of(starts: &[u32], top: usize, p: u32) -> usize
     requires { ⌜ top < length (now starts) ⌝ }
     requires { ⌜ top < pieceSize ⌝ }
     requires { ⌜ getD (now starts) 0 0 ≤ p ⌝ }
+    requires { ⌜ p < getD (now starts) top 0 ⌝ }
+    requires { ⌜ ((i : ℕ) → i ≤ top → i ≤ getD (now starts) i 0) ⌝ }
     ensures { λ r. ⌜ Found (now (starts .entry)) top p r ⌝ }
 {
-    if starts[top] <= p {
-        return top;
-    }
-    let around = step_down(starts, top, p);
-    halve(starts, top, around, p)
-}
-
-// Two places around it, found in steps that double.
-fn step_down(starts: &[u32], top: usize, p: u32) -> Bracket
-    requires { ⌜ top < length (now starts) ⌝ }
-    requires { ⌜ top < pieceSize ⌝ }
-    requires { ⌜ getD (now starts) 0 0 ≤ p ⌝ }
-    requires { ⌜ p < getD (now starts) top 0 ⌝ }
-    ensures { λ (r : Bracket). ⌜ Bracketed (now (starts .entry)) top p (r .low) (r .high) ⌝ }
-{
-    let mut high = top;
-    let mut step = 1;
-    while step <= high {
-        let low = high - step;
-        if starts[low] <= p {
-            return Bracket {
-                low: low,
-                high: high,
-            };
+    let mut at = smaller(top - 1, p as usize);
+    let floor = at - smaller(at, NEAR);
+    while floor < at {
+        if starts[at] <= p {
+            return at;
         }
-        high = low;
-        step = step * 2;
+        at -= 1;
     }
-    Bracket { low: 0, high: high }
+    let around = Bracket {
+        low: 0,
+        high: at + 1,
+    };
+    halve(starts, top, around, p)
 }
 
 // The place, found by halves.

@@ -6,7 +6,7 @@
 ghost use mathlib.Core.Path.{_≡_};
 ghost use mathlib.Core.Bool.{cond};
 ghost use mathlib.Core.List.{List};
-ghost use Prim.Native.Nat.{ℕ, _≤_, _<_, _+_, _-_};
+ghost use Prim.Native.Nat.{ℕ, _≤_, _<_, _+_, _-_, min};
 ghost use lib.ListN.{length, set, getD};
 ghost use lib.Dec.{ltb};
 ghost use Rattle.bags.specs.Parallel.{spawn, return, sync};
@@ -31,14 +31,19 @@ pub enum Spawned {
 pub fn begin(starts: &mut [u32], joins: &mut [u32]) -> Pairs
     requires { ⌜ pieceSize ≤ length (now starts) ⌝ }
     requires { ⌜ pieceSize ≤ length (now joins) ⌝ }
-    ensures result { λ (r : Pairs). ⌜ r ≡ record { count = 1; begun = 1 } ⌝ }
+    ensures result { λ (r : Pairs). ⌜ r ≡ record { count = 1; begun = 1; start = 0; join = 1 } ⌝ }
     ensures starts { λ _. ⌜ now (starts .exit) ≡ set (now (starts .entry)) 0 0 ⌝ }
     ensures joins { λ _. ⌜ now (joins .exit) ≡ set (now (joins .entry)) 0 1 ⌝ }
     ensures bags { λ r. ⌜ Begins (now (starts .entry)) (now (joins .entry)) (now (starts .exit)) (now (joins .exit)) r ⌝ }
 {
     starts[0] = 0;
     joins[0] = 1;
-    Pairs { count: 1, begun: 1 }
+    Pairs {
+        count: 1,
+        begun: 1,
+        start: 0,
+        join: 1,
+    }
 }
 
 // The running procedure spawns the next one, which runs from then on.
@@ -60,43 +65,63 @@ pub fn spawn(pairs: Pairs, starts: &mut [u32], joins: &mut [u32]) -> Spawned
     Spawned::Begun(Pairs {
         count: at + 1,
         begun: begun + 1,
+        start: begun,
+        join: begun + 1,
     })
 }
 
 // The running procedure syncs. The starts play no part.
-pub fn sync(pairs: Pairs, joins: &mut [u32])
+pub fn sync(pairs: Pairs, joins: &mut [u32]) -> Pairs
     requires { ⌜ 0 < pairs .count ⌝ }
     requires { ⌜ pairs .count ≤ length (now joins) ⌝ }
+    ensures result { λ (r : Pairs). ⌜ r ≡ record { count = pairs .count; begun = pairs .begun; start = pairs .start; join = pairs .begun } ⌝ }
     ensures joins { λ _. ⌜ now (joins .exit) ≡ set (now (joins .entry)) (pairs .count - 1) (pairs .begun) ⌝ }
-    ensures bags { λ _.
+    ensures bags { λ r.
         ⌜ ((starts : List ℕ) → Room starts (now (joins .entry)) pairs
-        → Carries sync starts (now (joins .entry)) pairs starts (now (joins .exit)) pairs) ⌝ }
+        → Carries sync starts (now (joins .entry)) pairs starts (now (joins .exit)) r) ⌝ }
 {
     let at = pairs.count - 1;
     joins[at] = pairs.begun;
+    Pairs {
+        count: pairs.count,
+        begun: pairs.begun,
+        start: pairs.start,
+        join: pairs.begun,
+    }
 }
 
-// The running procedure returns, and the one that spawned it runs again.
-pub fn returns(pairs: Pairs) -> Pairs
+// The running procedure returns, and the one that spawned it runs again: its pair is at hand again. Where main returns there is none,
+// and place 0 is read.
+pub fn returns(pairs: Pairs, starts: &[u32], joins: &[u32]) -> Pairs
     requires { ⌜ 0 < pairs .count ⌝ }
-    ensures result { λ (r : Pairs). ⌜ r ≡ record { count = pairs .count - 1; begun = pairs .begun } ⌝ }
-    ensures bags { λ r. ⌜ ((starts joins : List ℕ) → Room starts joins pairs → Carries return starts joins pairs starts joins r) ⌝ }
+    requires { ⌜ pairs .count ≤ length (now starts) ⌝ }
+    requires { ⌜ pairs .count ≤ length (now joins) ⌝ }
+    ensures result { λ (r : Pairs).
+        ⌜ r ≡ record {
+          count = pairs .count - 1;
+          begun = pairs .begun;
+          start = getD (now (starts .entry)) (pairs .count - 2) 0;
+          join = getD (now (joins .entry)) (pairs .count - 2) 0;
+        } ⌝ }
+    ensures bags { λ r.
+        ⌜ (Room (now (starts .entry)) (now (joins .entry)) pairs
+        → Carries return (now (starts .entry)) (now (joins .entry)) pairs (now (starts .entry)) (now (joins .entry)) r) ⌝ }
 {
+    let at = pairs.count - smaller(pairs.count, 2);
     Pairs {
         count: pairs.count - 1,
         begun: pairs.begun,
+        start: starts[at],
+        join: joins[at],
     }
 }
 
 // The procedure that runs.
-pub fn running(pairs: Pairs, starts: &[u32]) -> ProcedureNumber
-    requires { ⌜ 0 < pairs .count ⌝ }
-    requires { ⌜ pairs .count ≤ length (now starts) ⌝ }
-    ensures result { λ (r : ProcedureNumber). ⌜ r .0 ≡ getD (now (starts .entry)) (pairs .count - 1) 0 ⌝ }
-    ensures runner { λ (r : ProcedureNumber). ⌜ ((joins : List ℕ) → r .0 ≡ runner (bagsIn (now (starts .entry)) joins pairs)) ⌝ }
+pub fn running(pairs: Pairs) -> ProcedureNumber
+    ensures result { λ (r : ProcedureNumber). ⌜ r .0 ≡ pairs .start ⌝ }
+    ensures runner { λ (r : ProcedureNumber). ⌜ ((starts joins : List ℕ) → Room starts joins pairs → r .0 ≡ runner (bagsIn starts joins pairs)) ⌝ }
 {
-    let top = pairs.count - 1;
-    ProcedureNumber(starts[top])
+    ProcedureNumber(pairs.start)
 }
 
 // Has main not returned yet?
@@ -104,4 +129,11 @@ pub fn main_is_open(pairs: Pairs) -> bool
     ensures { λ r. ⌜ r ≡ ltb 0 (pairs .count) ⌝ }
 {
     0 < pairs.count
+}
+
+// The smaller of two numbers.
+fn smaller(a: usize, b: usize) -> usize
+    ensures { λ r. ⌜ r ≡ min a b ⌝ }
+{
+    if a < b { a } else { b }
 }

@@ -1,15 +1,15 @@
 -- One event is brought in: where the state and the pieces stand as the definitions say before it, and each layer has done its part, they stand so after
 -- it; or a rule refuses it, and what was reported stands. One law for each way out of `bring_other` and `bring_access`. Assumes nothing.
-use Prim.Native.Nat.{ℕ, suc, _+_, _<_, max}
+use Prim.Native.Nat.{ℕ, suc, _+_, _≤_, _<_, max}
 use mathlib.Core.Path.{_≡_, refl, sym, ap, ap₂, subst, _∙_}
 use mathlib.Core.Logic.{_≢_}
-use mathlib.Core.Bool.{Bool, true, false, cond, not, _&&_}
+use mathlib.Core.Bool.{Bool, true, false, cond, not, _&&_, _||_}
 use mathlib.Core.List.{List, [], _∷_, _++_, append-nil}
 use mathlib.Core.Option.{Option, none, some}
 use native.Mathlib.Omega.{arith}
-use lib.Dec.{eqb, leb, ltb}
+use lib.Dec.{leb, ltb}
 use lib.ListN.{length, length-append}
-use borrow.Author.Tests.{le-leb, lt-leb, lt-ltb, le-ltb}
+use borrow.Author.Tests.{le-leb, lt-leb, lt-ltb, le-ltb, eqb-true, ne-eqb}
 use Rattle.trace.specs.declared.Event.{Event}
 use Rattle.trace.specs.declared.Reading.the-variants.{Found}
 use Rattle.trace.specs.Kinds.{isSpawn, isLocking, isUnlocking, entry, lawfulHolding, isAccess, isRead, location}
@@ -17,6 +17,7 @@ use Rattle.trace.specs.Events.{readingAt}
 use Rattle.trace.proofs.Laws.{found as found-at}
 use Rattle.locks.specs.declared.Held.{Held}
 use Rattle.locks.specs.Sets.{isIn, isEmpty, taken, released, setOfAccess, count}
+use Rattle.locks.proofs.Laws.{one-less-counted}
 use Rattle.bags.specs.declared.Spawned.{Spawned}
 use Rattle.bags.specs.declared.Spawned.the-variants.{Begun, Full as AllBegun}
 use Rattle.bags.specs.declared.ask.Pairs.{Pairs}
@@ -41,11 +42,13 @@ use Rattle.kept.specs.Holds.{Holds as ListsHold, RestsKept, AccessIs, NotRefuse
 use Rattle.kept.proofs.Laws as lists
 use Rattle.checker.specs.declared.State.{State}
 use Rattle.checker.specs.Events.{place, events, actOf, heldAfter, acts, held, most, entryOf, run, visitsAt, visits}
-use Rattle.checker.specs.Rules.{goes-on, stops, firstBroken, rules, verdict}
+use Rattle.checker.specs.Rules.{Verdict, goes-on, stops, firstBroken, rules, verdict}
 use Rattle.checker.specs.Report.{Race, raceWith, raceAt, found, laid}
-use Rattle.checker.specs.Steps.{Stands, AllRestsKept, refusal, ComesNext, GoesOn, IsRefused, stateAfter, raceNamed, written}
+use Rattle.checker.specs.Steps.{Stands, AllRestsKept, ComesNext, GoesOn, IsRefused, stateAfter, raceNamed, written}
 use Rattle.checker.proofs.Stopping.{judged-found, accepted-too}
-use Rattle.checker.proofs.AccessKinds.{kind-is-access-not, access-spawns-not, access-acts-not, access-holds-the-same}
+use Rattle.checker.proofs.AccessKinds.{kind-is-access-not, access-spawns-not, access-locks-not, access-unlocks-not, access-acts-not}
+use Rattle.checker.proofs.AccessKinds.{access-holds-the-same, lawful-kinds}
+use Rattle.checker.proofs.Holding.{held-at-most}
 use Rattle.checker.proofs.Rests.{as-it-is, lists-as-they-are, all-as-they-are}
 use Rattle.checker.proofs.Writing.{laid-then-written}
 
@@ -58,16 +61,37 @@ lastRules t k e =
     (isAccess e && any (inNoBag (bags (acts t) k)) (visited (run t) k), 12) ∷
     (isAccess e && ltb pieceSize (inAll pieceSize (kept (run t) (suc k))), 13) ∷ []
 
--- The rules before them, by the code that they give, or 0.
-by-code : (a b c d : Bool) (later : List (Bool × ℕ))
-    → let code : ℕ = cond a 7 (cond b 8 (cond c 9 (cond d 10 0))) in
-    firstBroken ((a, 7) ∷ (b, 8) ∷ (c, 9) ∷ (d, 10) ∷ later) ≡ cond (eqb code 0) (firstBroken later) (stops code)
+-- The rules of codes 8 to 10 speak of different kinds, so which of them is tested first does not matter: the one of the event's kind decides.
+abbrev byKind : Event → ℕ → Verdict → Verdict
+byKind e set later =
+    cond (isLocking e) (cond (isIn (e .operand) set) (stops 9) later)
+    (cond (isUnlocking e) (cond (isIn (e .operand) set) later (stops 10))
+    (cond (isAccess e || isEmpty set) later (stops 8)))
+
+one-decides : (e : Event) (set : ℕ) (later : List (Bool × ℕ))
+    → firstBroken
+    ((not (lawfulHolding e) && not (isEmpty set), 8) ∷ (isLocking e && isIn (e .operand) set, 9) ∷
+    (isUnlocking e && not (isIn (e .operand) set), 10) ∷ later)
+    ≡ byKind e set (firstBroken later)
 unfolding firstBroken
-by-code true b c d later = refl
-by-code false true c d later = refl
-by-code false false true d later = refl
-by-code false false false true later = refl
-by-code false false false false later = refl
+one-decides e set later =
+    rw (lawful-kinds e) (by-tests (isLocking e) (isUnlocking e) (isAccess e) (isIn (e .operand) set) (isEmpty set) (not-both (isLocking e) refl))
+  where
+    not-both : (b : Bool) → isLocking e ≡ b → b ≡ true → isUnlocking e ≡ false
+    not-both true is so = let kind = eqb-true (e .kind) 3 is in ne-eqb (e .kind) 4 (omega arith)
+    not-both false is so = cc
+
+    by-tests : (locks unlocks accesses inside empty : Bool) → (locks ≡ true → unlocks ≡ false)
+        → firstBroken ((not (locks || (unlocks || accesses)) && not empty, 8) ∷ (locks && inside, 9) ∷ (unlocks && not inside, 10) ∷ later)
+        ≡ cond locks (cond inside (stops 9) (firstBroken later))
+        (cond unlocks (cond inside (firstBroken later) (stops 10)) (cond (accesses || empty) (firstBroken later) (stops 8)))
+    by-tests true unlocks accesses true empty apart = refl
+    by-tests true unlocks accesses false empty apart = rw (apart refl) refl
+    by-tests false true accesses true empty apart = refl
+    by-tests false true accesses false empty apart = refl
+    by-tests false false true inside empty apart = refl
+    by-tests false false false inside true apart = refl
+    by-tests false false false inside false apart = refl
 
 module _ (trace : List ℕ) (k : ℕ) (s : State) (p : Pieces) (starts joins : List ℕ) (e : Event) (next : ℕ) (before : Stands trace k s p starts joins)
     (bytes-left : s .at < length trace) (read : readingAt trace (s .at) ≡ Found e next) where
@@ -77,16 +101,17 @@ module _ (trace : List ℕ) (k : ℕ) (s : State) (p : Pieces) (starts joins : L
       judged-found trace k next e (subst (λ (at : ℕ). at < length trace) (before .at-place) bytes-left)
       (subst (λ (at : ℕ). readingAt trace at ≡ Found e next) (before .at-place) read)
 
-  -- What is said of it.
-  pub verdict-by-code :
-      let code = refusal e (s .held .bits) (ltb 0 (s .pairs .count)) in
-      verdict trace k ≡ cond (eqb code 0) (firstBroken (lastRules (events trace) k e)) (stops code)
-  unfolding rules
-  verdict-by-code =
+  -- What is said of it after main's return, and before.
+  pub stops-after-main : ltb 0 (s .pairs .count) ≡ false → verdict trace k ≡ stops 7
+  unfolding rules firstBroken
+  stops-after-main over = found-there .0 ∙ rw (before .bags-held .main-told, over) refl
+
+  pub verdict-by-kind : ltb 0 (s .pairs .count) ≡ true → verdict trace k ≡ byKind e (s .held .bits) (firstBroken (lastRules (events trace) k e))
+  unfolding rules firstBroken
+  verdict-by-kind running =
       found-there .0
-      ∙ rw (found-there .1, before .bags-held .main-told, sym (before .held-told))
-      (by-code (not (ltb 0 (s .pairs .count))) (not (lawfulHolding e) && not (isEmpty (s .held .bits))) (isLocking e && isIn (e .operand) (s .held .bits))
-      (isUnlocking e && not (isIn (e .operand) (s .held .bits))) (lastRules (events trace) k e))
+      ∙ rw (found-there .1, before .bags-held .main-told, sym (before .held-told), running)
+      (one-decides e (s .held .bits) (lastRules (events trace) k e))
 
 -- ---- The race found ---------------------------------------------------------------------------------------------------------------------------
 
@@ -110,8 +135,15 @@ module _ (trace report : List ℕ) (p : Pieces) (s : State) (starts joins : List
   next-place : place trace (suc k) ≡ next
   next-place = found-there trace k s p starts joins e next (n .stands) (n .bytes-left) (n .read) .2
 
-  by-last-rules : verdict trace k ≡ firstBroken (lastRules t k e)
-  by-last-rules = verdict-by-code trace k s p starts joins e next (n .stands) (n .bytes-left) (n .read) ∙ rw (n .passes) refl
+  by-kind : verdict trace k ≡ byKind e (s .held .bits) (firstBroken (lastRules t k e))
+  by-kind = verdict-by-kind trace k s p starts joins e next (n .stands) (n .bytes-left) (n .read) (n .main-runs)
+
+  -- The rules of codes 8 to 10 let it pass.
+  abbrev Passes : Type 0
+  Passes = (later : Verdict) → byKind e (s .held .bits) later ≡ later
+
+  by-last-rules : Passes → verdict trace k ≡ firstBroken (lastRules t k e)
+  by-last-rules passes = by-kind ∙ passes (firstBroken (lastRules t k e))
 
   held-next : (set : ℕ) → heldAfter e (s .held .bits) ≡ set → held t (suc k) ≡ set
   unfolding held
@@ -130,14 +162,19 @@ module _ (trace report : List ℕ) (p : Pieces) (s : State) (starts joins : List
   unfolding run
   same-lists no-access = lists.holds-other (run t) k p (s .slots) (ap isAccess is-e ∙ no-access) (n .stands .lists-held)
 
+  -- The locks held before it were counted.
+  counted : count (s .held .bits) ≤ most t k
+  counted = rw (n .stands .held-told) (held-at-most t k)
+
   -- It is accepted, the locks held and the bags being brought forward.
-  other-goes-on : (set : Held) (pairs′ : Pairs) (starts′ joins′ : List ℕ) → isAccess e ≡ false → (isSpawn e && leb mostBegun (begun (acts t) k)) ≡ false
-      → set .bits ≡ heldAfter e (s .held .bits) → BagsHold (acts t) (suc k) starts′ joins′ pairs′ → RestKept pieceSize starts starts′
-      → RestKept pieceSize joins joins′
-      → GoesOn trace k report p starts joins report p starts′ joins′ (stateAfter s next set pairs′ (s .slots) (s .counts .races) 0)
+  other-goes-on : (set : Held) (holding : ℕ) (pairs′ : Pairs) (starts′ joins′ : List ℕ) → Passes → isAccess e ≡ false
+      → (isSpawn e && leb mostBegun (begun (acts t) k)) ≡ false → set .bits ≡ heldAfter e (s .held .bits)
+      → max (most t k) holding ≡ max (most t k) (count (set .bits)) → BagsHold (acts t) (suc k) starts′ joins′ pairs′
+      → RestKept pieceSize starts starts′ → RestKept pieceSize joins joins′
+      → GoesOn trace k report p starts joins report p starts′ joins′ (stateAfter s next set pairs′ (s .slots) (s .counts .races) 0 holding)
   unfolding firstBroken most
-  other-goes-on set pairs′ starts′ joins′ no-access few is then starts-rest joins-rest =
-      let accepted : verdict trace k ≡ goes-on = by-last-rules ∙ rw (few, no-access) refl in
+  other-goes-on set holding pairs′ starts′ joins′ passes no-access few is most-then then starts-rest joins-rest =
+      let accepted : verdict trace k ≡ goes-on = by-last-rules passes ∙ rw (few, no-access) refl in
       let told : held t (suc k) ≡ set .bits = held-next (set .bits) (sym is) in
       record {
         accepted = accepted;
@@ -150,78 +187,106 @@ module _ (trace report : List ℕ) (p : Pieces) (s : State) (starts joins : List
           events-told = omega arith;
           races-told = n .stands .races-told ∙ ap length (sym (same-found no-access));
           visits-told = omega (arith, n .stands .visits-told, same-visits no-access);
-          most-told = ap₂ max (n .stands .most-told) (ap count (sym told));
+          most-told = rw (n .stands .most-told, told) most-then;
         };
         reported = λ report₀ laid-before. laid-before ∙ ap (λ (l : List Race). laid l report₀) (sym (same-found no-access));
         rests-kept = record { lists-rest = lists-as-they-are p; starts-rest = starts-rest; joins-rest = joins-rest };
       }
 
   -- The bags are brought forward: a spawn, a return or a sync is accepted.
-  bags-go-on : (act : Act) (starts′ joins′ : List ℕ) (pairs′ : Pairs) → isAccess e ≡ false → heldAfter e (s .held .bits) ≡ s .held .bits → actOf e ≡ act
-      → (isSpawn e && leb mostBegun (begun (acts t) k)) ≡ false → Carries act starts joins (s .pairs) starts′ joins′ pairs′
+  bags-go-on : (act : Act) (starts′ joins′ : List ℕ) (pairs′ : Pairs) → Passes → isAccess e ≡ false → heldAfter e (s .held .bits) ≡ s .held .bits
+      → actOf e ≡ act → (isSpawn e && leb mostBegun (begun (acts t) k)) ≡ false → Carries act starts joins (s .pairs) starts′ joins′ pairs′
       → length starts′ ≡ length starts → length joins′ ≡ length joins
-      → GoesOn trace k report p starts joins report p starts′ joins′ (stateAfter s next (s .held) pairs′ (s .slots) (s .counts .races) 0)
-  bags-go-on act starts′ joins′ pairs′ no-access same-held acts-so few goes starts-length joins-length =
-      other-goes-on (s .held) pairs′ starts′ joins′ no-access few (sym same-held)
+      → GoesOn trace k report p starts joins report p starts′ joins′ (stateAfter s next (s .held) pairs′ (s .slots) (s .counts .races) 0 0)
+  bags-go-on act starts′ joins′ pairs′ passes no-access same-held acts-so few goes starts-length joins-length =
+      other-goes-on (s .held) 0 pairs′ starts′ joins′ passes no-access few (sym same-held) (omega (arith, counted))
       (bags.holds-next (acts t) k act starts joins starts′ joins′ (s .pairs) pairs′ (ap actOf is-e ∙ acts-so) (n .stands .bags-held) goes)
       (record { same-length = starts-length; same-rest = goes .starts-rest }) (record { same-length = joins-length; same-rest = goes .joins-rest })
 
   -- The locks held are brought forward: a lock is taken or released.
-  held-goes-on : (set : Held) → isAccess e ≡ false → isSpawn e ≡ false → actOf e ≡ other → set .bits ≡ heldAfter e (s .held .bits)
-      → GoesOn trace k report p starts joins report p starts joins (stateAfter s next set (s .pairs) (s .slots) (s .counts .races) 0)
-  held-goes-on set no-access spawns-not acts-not is =
-      other-goes-on set (s .pairs) starts joins no-access (rw spawns-not refl) is
+  held-goes-on : (set : Held) (holding : ℕ) → Passes → isAccess e ≡ false → isSpawn e ≡ false → actOf e ≡ other
+      → set .bits ≡ heldAfter e (s .held .bits) → max (most t k) holding ≡ max (most t k) (count (set .bits))
+      → GoesOn trace k report p starts joins report p starts joins (stateAfter s next set (s .pairs) (s .slots) (s .counts .races) 0 holding)
+  held-goes-on set holding passes no-access spawns-not acts-not is most-then =
+      other-goes-on set holding (s .pairs) starts joins passes no-access (rw spawns-not refl) is most-then
       (bags.holds-other (acts t) k starts joins (s .pairs) (ap actOf is-e ∙ acts-not) (n .stands .bags-held)) (as-it-is starts) (as-it-is joins)
 
-  -- A spawn goes on, or is refused where 4,096 procedures have begun.
-  pub spawn-goes-on : (r : Spawned) (then : Pairs) (starts′ joins′ : List ℕ) → e .kind ≡ 0 → isAccess e ≡ false → r ≡ Begun then
-      → AfterSpawn starts joins (s .pairs) starts′ joins′ r → length starts′ ≡ length starts → length joins′ ≡ length joins
-      → GoesOn trace k report p starts joins report p starts′ joins′ (stateAfter s next (s .held) then (s .slots) (s .counts .races) 0)
+  -- It is refused, and nothing was done.
+  refused-at-once : (c : ℕ) → byKind e (s .held .bits) (firstBroken (lastRules t k e)) ≡ stops c
+      → IsRefused trace k report p starts joins report p starts joins c
+  refused-at-once c says = record { refused = by-kind ∙ says; report-same = refl; rests-kept = all-as-they-are p starts joins }
+
+  -- A lock goes on, or is refused where it is held.
+  pub lock-goes-on : (set : Held) (holding : ℕ) → e .kind ≡ 3 → isAccess e ≡ false → isIn (e .operand) (s .held .bits) ≡ false
+      → set .bits ≡ taken (e .operand) (s .held .bits) → holding ≡ count (set .bits)
+      → GoesOn trace k report p starts joins report p starts joins (stateAfter s next set (s .pairs) (s .slots) (s .counts .races) 0 holding)
   unfolding actOf heldAfter
-  spawn-goes-on r then starts′ joins′ kind no-access case leaves starts-length joins-length =
+  lock-goes-on set holding kind no-access free is counts =
+      held-goes-on set holding (λ later. rw (kind, free) refl) no-access (rw kind refl) (rw kind refl) (is ∙ sym (rw kind refl)) (rw counts refl)
+
+  pub lock-refused : e .kind ≡ 3 → isIn (e .operand) (s .held .bits) ≡ true → IsRefused trace k report p starts joins report p starts joins 9
+  lock-refused kind holds = refused-at-once 9 (rw (kind, holds) refl)
+
+  -- An unlock goes on, or is refused where the lock is not held.
+  pub unlock-goes-on : (set : Held) → e .kind ≡ 4 → isAccess e ≡ false → isIn (e .operand) (s .held .bits) ≡ true
+      → set .bits ≡ released (e .operand) (s .held .bits)
+      → GoesOn trace k report p starts joins report p starts joins (stateAfter s next set (s .pairs) (s .slots) (s .counts .races) 0 0)
+  unfolding actOf heldAfter entry
+  unlock-goes-on set kind no-access holds is =
+      let small : e .operand ≤ 62 = rw kind at (found-at trace (s .at) e next (n .read) .operand) in
+      let fewer = one-less-counted (e .operand) (s .held .bits) (lt-ltb (e .operand) 63 (omega arith)) holds in
+      held-goes-on set 0 (λ later. rw (kind, holds) refl) no-access (rw kind refl) (rw kind refl) (is ∙ sym (rw kind refl))
+      (rw is (omega (arith, counted, fewer)))
+
+  pub unlock-refused : e .kind ≡ 4 → isIn (e .operand) (s .held .bits) ≡ false → IsRefused trace k report p starts joins report p starts joins 10
+  unlock-refused kind free = refused-at-once 10 (rw (kind, free) refl)
+
+  -- What is no access and neither of the two is refused where a lock is held.
+  pub holding-refused : e .kind ≢ 3 → e .kind ≢ 4 → isAccess e ≡ false → isEmpty (s .held .bits) ≡ false
+      → IsRefused trace k report p starts joins report p starts joins 8
+  holding-refused not-3 not-4 no-access holding = refused-at-once 8 (rw (ne-eqb _ _ not-3, ne-eqb _ _ not-4, no-access, holding) refl)
+
+  -- A spawn goes on, or is refused where 4,096 procedures have begun.
+  pub spawn-goes-on : (r : Spawned) (then : Pairs) (starts′ joins′ : List ℕ) → e .kind ≡ 0 → isAccess e ≡ false → isEmpty (s .held .bits) ≡ true
+      → r ≡ Begun then → AfterSpawn starts joins (s .pairs) starts′ joins′ r → length starts′ ≡ length starts → length joins′ ≡ length joins
+      → GoesOn trace k report p starts joins report p starts′ joins′ (stateAfter s next (s .held) then (s .slots) (s .counts .races) 0 0)
+  unfolding actOf heldAfter
+  spawn-goes-on r then starts′ joins′ kind no-access empty case leaves starts-length joins-length =
       let so = subst (AfterSpawn starts joins (s .pairs) starts′ joins′) case leaves in
-      bags-go-on spawn starts′ joins′ then no-access (rw kind refl) (rw kind refl)
+      bags-go-on spawn starts′ joins′ then (λ later. rw (no-access, kind, empty) refl) no-access (rw kind refl) (rw kind refl)
       (rw (kind, lt-leb mostBegun (begun (acts t) k) (rw (← n .stands .bags-held .begun-held) (so .0))) refl) (so .1) starts-length joins-length
 
-  pub spawn-refused : (r : Spawned) (starts′ joins′ : List ℕ) → e .kind ≡ 0 → r ≡ AllBegun → AfterSpawn starts joins (s .pairs) starts′ joins′ r
-      → IsRefused trace k report p starts joins report p starts′ joins′ 11
+  pub spawn-refused : (r : Spawned) (starts′ joins′ : List ℕ) → e .kind ≡ 0 → isAccess e ≡ false → isEmpty (s .held .bits) ≡ true → r ≡ AllBegun
+      → AfterSpawn starts joins (s .pairs) starts′ joins′ r → IsRefused trace k report p starts joins report p starts′ joins′ 11
   unfolding firstBroken
-  spawn-refused r starts′ joins′ kind case leaves =
+  spawn-refused r starts′ joins′ kind no-access empty case leaves =
       let so = subst (AfterSpawn starts joins (s .pairs) starts′ joins′) case leaves in
       record {
-        refused = by-last-rules ∙ rw (kind, le-leb mostBegun (begun (acts t) k) (rw (← n .stands .bags-held .begun-held) (so .0))) refl;
+        refused =
+            by-last-rules (λ later. rw (no-access, kind, empty) refl)
+            ∙ rw (kind, le-leb mostBegun (begun (acts t) k) (rw (← n .stands .bags-held .begun-held) (so .0))) refl;
         report-same = refl;
         rests-kept = rw (so .1, so .2) (all-as-they-are p starts joins);
       }
 
-  -- A return and a sync go on.
-  pub return-goes-on : (then : Pairs) → e .kind ≡ 1 → isAccess e ≡ false → Carries return starts joins (s .pairs) starts joins then
-      → GoesOn trace k report p starts joins report p starts joins (stateAfter s next (s .held) then (s .slots) (s .counts .races) 0)
+  -- A return and a sync go on. What is no access and none of the others is a sync.
+  pub return-goes-on : (then : Pairs) → e .kind ≡ 1 → isAccess e ≡ false → isEmpty (s .held .bits) ≡ true
+      → Carries return starts joins (s .pairs) starts joins then
+      → GoesOn trace k report p starts joins report p starts joins (stateAfter s next (s .held) then (s .slots) (s .counts .races) 0 0)
   unfolding actOf heldAfter
-  return-goes-on then kind no-access goes =
-      bags-go-on return starts joins then no-access (rw kind refl) (rw kind refl) (rw kind refl) goes refl refl
+  return-goes-on then kind no-access empty goes =
+      bags-go-on return starts joins then (λ later. rw (no-access, kind, empty) refl) no-access (rw kind refl) (rw kind refl) (rw kind refl) goes refl
+      refl
 
-  pub sync-goes-on : (joins′ : List ℕ) → e .kind ≡ 2 → isAccess e ≡ false → Carries sync starts joins (s .pairs) starts joins′ (s .pairs)
-      → length joins′ ≡ length joins
-      → GoesOn trace k report p starts joins report p starts joins′ (stateAfter s next (s .held) (s .pairs) (s .slots) (s .counts .races) 0)
-  unfolding actOf heldAfter
-  sync-goes-on joins′ kind no-access goes joins-length =
-      bags-go-on sync starts joins′ (s .pairs) no-access (rw kind refl) (rw kind refl) (rw kind refl) goes refl joins-length
-
-  -- A lock and an unlock go on. What is no access and none of the others is an unlock.
-  pub lock-goes-on : (set : Held) → e .kind ≡ 3 → isAccess e ≡ false → set .bits ≡ taken (e .operand) (s .held .bits)
-      → GoesOn trace k report p starts joins report p starts joins (stateAfter s next set (s .pairs) (s .slots) (s .counts .races) 0)
-  unfolding actOf heldAfter
-  lock-goes-on set kind no-access is = held-goes-on set no-access (rw kind refl) (rw kind refl) (is ∙ sym (rw kind refl))
-
-  pub unlock-goes-on : (set : Held) → e .kind ≢ 0 → e .kind ≢ 1 → e .kind ≢ 2 → e .kind ≢ 3 → isAccess e ≡ false
-      → set .bits ≡ released (e .operand) (s .held .bits)
-      → GoesOn trace k report p starts joins report p starts joins (stateAfter s next set (s .pairs) (s .slots) (s .counts .races) 0)
+  pub sync-goes-on : (joins′ : List ℕ) (then : Pairs) → e .kind ≢ 0 → e .kind ≢ 1 → e .kind ≢ 3 → e .kind ≢ 4 → isAccess e ≡ false → isEmpty (s .held .bits) ≡ true
+      → Carries sync starts joins (s .pairs) starts joins′ then → length joins′ ≡ length joins
+      → GoesOn trace k report p starts joins report p starts joins′ (stateAfter s next (s .held) then (s .slots) (s .counts .races) 0 0)
   unfolding actOf heldAfter entry
-  unlock-goes-on set not-0 not-1 not-2 not-3 no-access is =
+  sync-goes-on joins′ then not-0 not-1 not-3 not-4 no-access empty goes joins-length =
       let small = found-at trace (s .at) e next (n .read) .kind in
-      let kind : e .kind ≡ 4 = omega (arith, kind-is-access-not e 5 refl no-access, kind-is-access-not e 6 refl no-access) in
-      held-goes-on set no-access (rw kind refl) (rw kind refl) (is ∙ sym (rw kind refl))
+      let kind : e .kind ≡ 2 = omega (arith, kind-is-access-not e 5 refl no-access, kind-is-access-not e 6 refl no-access) in
+      bags-go-on sync starts joins′ then (λ later. rw (no-access, kind, empty) refl) no-access (rw kind refl) (rw kind refl) (rw kind refl) goes
+      refl joins-length
 
   -- ---- An access --------------------------------------------------------------------------------------------------------------------------------
 
@@ -256,13 +321,17 @@ module _ (trace report : List ℕ) (p : Pieces) (s : State) (starts joins : List
     rests-then : AllRestsKept p starts joins p′ starts joins
     rests-then = record { lists-rest = lists-then .1; starts-rest = as-it-is starts; joins-rest = as-it-is joins }
 
+    -- The rules of codes 8 to 10 do not speak of it.
+    access-passes : Passes
+    access-passes later = rw (access-locks-not e is-access, access-unlocks-not e is-access, is-access) refl
+
     -- It is refused with code 12 or 13,
     pub stray-refused : r ≡ InNoBag → IsRefused trace k report p starts joins report p′ starts joins 12
     unfolding firstBroken
     stray-refused case =
         let why = subst (HoldsAfter (run t) k (bagsIn starts joins (s .pairs)) p′ (s .slots)) case (lists-then .0) in
         record {
-          refused = by-last-rules ∙ rw (access-spawns-not e is-access, is-access, sym (n .stands .bags-held .bags-held), why .0) refl;
+          refused = by-last-rules access-passes ∙ rw (access-spawns-not e is-access, is-access, sym (n .stands .bags-held .bags-held), why .0) refl;
           report-same = refl;
           rests-kept = rests-then;
         }
@@ -273,7 +342,7 @@ module _ (trace report : List ℕ) (p : Pieces) (s : State) (starts joins : List
         let why = subst (HoldsAfter (run t) k (bagsIn starts joins (s .pairs)) p′ (s .slots)) case (lists-then .0) in
         record {
           refused =
-              by-last-rules
+              by-last-rules access-passes
               ∙ rw (access-spawns-not e is-access, is-access, sym (n .stands .bags-held .bags-held), why .0, lt-ltb _ _ (why .1)) refl;
           report-same = refl;
           rests-kept = rests-then;
@@ -294,12 +363,12 @@ module _ (trace report : List ℕ) (p : Pieces) (s : State) (starts joins : List
     pub access-goes-on : (then : Slots) (seen : ℕ) (race : Named) (races : ℕ) (report′ : List ℕ) → r ≡ Done then seen race
         → races ≡ s .counts .races + length (raceNamed x ours race)
         → report′ ≡ written (s .counts .races) (raceNamed x ours race) report
-        → GoesOn trace k report p starts joins report′ p′ starts joins (stateAfter s next (s .held) (s .pairs) then races seen)
+        → GoesOn trace k report p starts joins report′ p′ starts joins (stateAfter s next (s .held) (s .pairs) then races seen 0)
     unfolding firstBroken found visitsAt sumBelow most
     access-goes-on then seen race races report′ case more wrote =
         let so = subst (HoldsAfter (run t) k (bagsIn starts joins (s .pairs)) p′ (s .slots)) case (lists-then .0) in
         let accepted : verdict trace k ≡ goes-on =
-        by-last-rules
+        by-last-rules access-passes
         ∙ rw (access-spawns-not e is-access, is-access, sym (n .stands .bags-held .bags-held), so .all-in-bags, le-ltb _ _ (so .not-too-many)) refl in
         let anew = race-anew then seen race so in
         let in-all : found (run t) (suc k) ≡ found (run t) k ++ raceNamed x ours race = ap (found (run t) k ++_) anew in
@@ -317,7 +386,7 @@ module _ (trace report : List ℕ) (p : Pieces) (s : State) (starts joins : List
                 more ∙ ap (_+ length (raceNamed x ours race)) (n .stands .races-told)
                 ∙ sym (length-append (found (run t) k) (raceNamed x ours race)) ∙ ap length (sym in-all);
             visits-told = rw (is-e, is-access) (ap₂ _+_ (n .stands .visits-told) (so .visits-told));
-            most-told = ap₂ max (n .stands .most-told) (ap count (sym same-set));
+            most-told = rw (n .stands .most-told, same-set) (omega (arith, counted));
           };
           reported = λ report₀ laid-before.
               wrote ∙ ap₂ (λ (m : ℕ) (l : List ℕ). written m (raceNamed x ours race) l) (n .stands .races-told) laid-before

@@ -2,14 +2,13 @@
 -- that is refused before it is brought in changes nothing. Assumes nothing.
 use Prim.Native.Nat.{ℕ, zero, suc, _*_, _≤_, _<_, zero-le}
 use mathlib.Core.Path.{_≡_, refl, sym, ap, subst, _∙_}
-use mathlib.Core.Logic.{_≢_}
 use mathlib.Core.Bool.{Bool, true, false, cond}
 use mathlib.Core.List.{List, []}
 use mathlib.Core.Option.{Option, none, some}
 use native.Mathlib.Omega.{arith}
 use lib.Dec.{ltb}
 use lib.ListN.{length, length-append}
-use borrow.Author.Tests.{ltb-true, ne-eqb}
+use borrow.Author.Tests.{ltb-true}
 use Rattle.trace.specs.declared.Event.{Event}
 use Rattle.trace.specs.declared.Refusal.{Refusal}
 use Rattle.trace.specs.declared.Reading.the-variants.{Found, Refused}
@@ -27,10 +26,10 @@ use Rattle.checker.specs.Events.{events, run, visitsAt, visits}
 use Rattle.checker.specs.Rules.{stops}
 use Rattle.checker.specs.Report.{raceWith, raceAt, found}
 use Rattle.checker.specs.Call.{mostBytes}
-use Rattle.checker.specs.Steps.{Stands, refusal, ComesNext, Safe, IsRefused}
+use Rattle.checker.specs.Steps.{Stands, ComesNext, Safe, IsRefused}
 use Rattle.checker.proofs.Stopping.{judged-refused, place-within}
 use Rattle.checker.proofs.Rests.{all-as-they-are}
-use Rattle.checker.proofs.Bringing.{verdict-by-code}
+use Rattle.checker.proofs.Bringing.{stops-after-main}
 
 -- ---- The counts stay small --------------------------------------------------------------------------------------------------------------------
 
@@ -68,11 +67,6 @@ visits-in-all t (suc n) small = omega (arith, visits-in-all t n (omega arith), v
 
 -- ---- What the layers below ask for ------------------------------------------------------------------------------------------------------------
 
--- No code: main runs.
-main-runs : (e : Event) (set : ℕ) (running : Bool) → refusal e set running ≡ 0 → running ≡ true
-main-runs e set true passes = refl
-main-runs e set false passes = absurd (let z : _≡_ {A = ℕ} 7 0 = passes in omega arith)
-
 module _ (trace : List ℕ) (p : Pieces) (s : State) (starts joins : List ℕ) (e : Event) (next : ℕ) (n : ComesNext trace s p starts joins e next) where
   pub is-safe : length trace ≤ mostBytes → Safe s p starts joins
   is-safe short =
@@ -81,11 +75,14 @@ module _ (trace : List ℕ) (p : Pieces) (s : State) (starts joins : List ℕ) (
       let within = place-within trace k (before .accepted-before) in
       let small : k < mostBytes = omega (arith, n .bytes-left, before .at-place) in
       record {
-        bags-room = before .bags-held .room (ltb-true _ _ (main-runs e (s .held .bits) (ltb 0 (s .pairs .count)) (n .passes)));
+        bags-room = before .bags-held .room (ltb-true _ _ (n .main-runs));
         lists-room = before .lists-held .room;
-        events-small = small;
+        counts-small =
+            record {
+              events-small = small;
+              visits-small = omega (arith, before .visits-told, visits-in-all (events trace) k (omega arith));
+            };
         races-small = omega (arith, before .races-told, found-at-most (run (events trace)) k);
-        visits-small = omega (arith, before .visits-told, visits-in-all (events trace) k (omega arith));
       }
 
   pub is-located : isAccess e ≡ true → location e < pieceSize
@@ -107,11 +104,11 @@ module _ (trace report : List ℕ) (k : ℕ) (p : Pieces) (s : State) (starts jo
     rests-kept = all-as-they-are p starts joins;
   }
 
-  -- or a rule of codes 7 to 10 is broken.
-  pub code-refused : (e : Event) (next c : ℕ) → readingAt trace (s .at) ≡ Found e next → c ≡ refusal e (s .held .bits) (ltb 0 (s .pairs .count)) → c ≢ 0
-      → IsRefused trace k report p starts joins report p starts joins c
-  code-refused e next c read is some-code = record {
-    refused = verdict-by-code trace k s p starts joins e next before left read ∙ rw (sym is, ne-eqb c 0 some-code) refl;
+  -- or main has returned.
+  pub refused-after-main : (e : Event) (next : ℕ) → readingAt trace (s .at) ≡ Found e next → ltb 0 (s .pairs .count) ≡ false
+      → IsRefused trace k report p starts joins report p starts joins 7
+  refused-after-main e next read over = record {
+    refused = stops-after-main trace k s p starts joins e next before left read over;
     report-same = refl;
     rests-kept = all-as-they-are p starts joins;
   }

@@ -2,16 +2,14 @@
 -- file.
 use Prim.Native.Nat.{ℕ, suc, _+_, _*_, _≤_, _<_, max}
 use mathlib.Core.Path.{_≡_}
-use mathlib.Core.Bool.{Bool, cond, not, _&&_}
+use mathlib.Core.Bool.{true, cond}
 use mathlib.Core.List.{List, [], _∷_}
 use lib.Dec.{leb, ltb}
 use lib.ListN.{length, set}
 use Rattle.trace.specs.declared.Event.{Event}
 use Rattle.trace.specs.declared.Reading.the-variants.{Found}
-use Rattle.trace.specs.Kinds.{isLocking, isUnlocking, lawfulHolding}
 use Rattle.trace.specs.Events.{readingAt}
 use Rattle.locks.specs.declared.Held.{Held}
-use Rattle.locks.specs.Sets.{isIn, isEmpty, count}
 use Rattle.bags.specs.declared.ask.Pairs.{Pairs}
 use Rattle.bags.specs.Runs.{Room as BagsRoom}
 use Rattle.bags.specs.Holds.{Holds as BagsHold}
@@ -50,33 +48,29 @@ pub record AllRestsKept (p : Pieces) (starts joins : List ℕ) (p′ : Pieces) (
   pub starts-rest : RestKept pieceSize starts starts′
   pub joins-rest : RestKept pieceSize joins joins′
 
--- The code, of 7 to 10, that an event is refused with, or 0.
-abbrev pub refusal : Event → ℕ → Bool → ℕ
-refusal e set running =
-    cond (not running) 7
-    (cond (not (lawfulHolding e) && not (isEmpty set)) 8
-    (cond (isLocking e && isIn (e .operand) set) 9
-    (cond (isUnlocking e && not (isIn (e .operand) set)) 10 0)))
-
--- An event of the trace comes next, and codes 3 to 10 let it pass.
+-- An event of the trace comes next, and codes 3 to 7 let it pass.
 pub record ComesNext (trace : List ℕ) (s : State) (p : Pieces) (starts joins : List ℕ) (e : Event) (next : ℕ) : Type 0 where
   pub stands : Stands trace (s .counts .events) s p starts joins
   pub bytes-left : s .at < length trace
   pub read : readingAt trace (s .at) ≡ Found e next
-  pub passes : refusal e (s .held .bits) (ltb 0 (s .pairs .count)) ≡ 0
+  pub main-runs : ltb 0 (s .pairs .count) ≡ true
 
 -- More visits than this are never counted: the longest trace has so many events, each with a byte at least, and a list has at most as many entries as
 -- there were events before. It is the square of the longest trace's length.
 abbrev pub mostVisits : ℕ
 mostVisits = 281474976710656
 
+-- The counts have room for an event more.
+pub record Small (c : Counts) : Type 0 where
+  pub events-small : c .events < mostBytes
+  pub visits-small : c .visits ≤ mostVisits
+
 -- The numbers that are counted stay small, and the pieces are as the layers below ask for.
 pub record Safe (s : State) (p : Pieces) (starts joins : List ℕ) : Type 0 where
   pub bags-room : BagsRoom starts joins (s .pairs)
   pub lists-room : ListsRoom p (s .slots)
-  pub events-small : s .counts .events < mostBytes
+  pub counts-small : Small (s .counts)
   pub races-small : s .counts .races ≤ s .counts .events
-  pub visits-small : s .counts .visits ≤ mostVisits
 
 -- The event is accepted, and everything is brought forward; or it is refused with a code, and what was reported stands.
 module _ (trace : List ℕ) (k : ℕ) (report : List ℕ) (p : Pieces) (starts joins report′ : List ℕ) (p′ : Pieces) (starts′ joins′ : List ℕ) where
@@ -96,14 +90,14 @@ module _ (trace : List ℕ) (k : ℕ) (report : List ℕ) (p : Pieces) (starts j
   AfterStep (Next s′) = GoesOn s′
   AfterStep (Stop c) = IsRefused c
 
--- The counts after an event, given how many accesses are reported then, the visits more, and the locks held then; and the state, given the place of the
--- next event and what the layers below made of theirs.
-abbrev pub countsAfter : Counts → ℕ → ℕ → Held → Counts
-countsAfter c races more set = record { events = c .events + 1; races = races; visits = c .visits + more; most = max (c .most) (count (set .bits)) }
+-- The counts after an event, given how many accesses are reported then, the visits more, and how many locks are held then, or 0 where no lock was
+-- taken; and the state, given the place of the next event and what the layers below made of theirs.
+abbrev pub countsAfter : Counts → ℕ → ℕ → ℕ → Counts
+countsAfter c races more holding = record { events = c .events + 1; races = races; visits = c .visits + more; most = max (c .most) holding }
 
-abbrev pub stateAfter : State → ℕ → Held → Pairs → Slots → ℕ → ℕ → State
-stateAfter s next set pairs slots races more =
-    record { at = next; held = set; pairs = pairs; slots = slots; counts = countsAfter (s .counts) races more set }
+abbrev pub stateAfter : State → ℕ → Held → Pairs → Slots → ℕ → ℕ → ℕ → State
+stateAfter s next set pairs slots races more holding =
+    record { at = next; held = set; pairs = pairs; slots = slots; counts = countsAfter (s .counts) races more holding }
 
 -- The race that an access is reported with, if an entry is named.
 abbrev pub raceNamed : ℕ → Entry → Named → List Race

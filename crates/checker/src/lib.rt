@@ -6,7 +6,6 @@ ghost use mathlib.Core.Path.{_≡_};
 ghost use mathlib.Core.Bool.{true, false, cond};
 ghost use mathlib.Core.List.{List};
 ghost use Prim.Native.Nat.{ℕ, _+_, _≤_, _<_, max};
-ghost use lib.Dec.{ltb};
 ghost use lib.ListN.{length};
 ghost use Rattle.trace.specs.Kinds.{isAccess, location};
 ghost use Rattle.bags.specs.Runs.{Room as BagsRoom};
@@ -14,9 +13,9 @@ ghost use Rattle.kept.specs.Pieces.{Pieces, pieceSize, pieces, Fits};
 ghost use Rattle.checker.specs.Events.{events as eventsOf, run};
 ghost use Rattle.checker.specs.Rules.{stop};
 ghost use Rattle.checker.specs.Report.{found, laid};
-ghost use Rattle.checker.specs.Call.{room, lent, left, anyShort, mostBytes, codeAlone, answer};
+ghost use Rattle.checker.specs.Call.{room, lent, left, mostBytes, codeAlone, answer};
 ghost use Rattle.checker.specs.Contract.{Contract};
-ghost use Rattle.checker.specs.Steps.{Stands, AllRestsKept, refusal, ComesNext, mostVisits, Safe, AfterStep};
+ghost use Rattle.checker.specs.Steps.{Stands, AllRestsKept, ComesNext, Small, Safe, AfterStep};
 ghost use Rattle.checker.specs.Steps.{countsAfter, stateAfter, raceNamed, writtenAt, written, answerWith};
 use bags::Spawned;
 use bags::ask::Pairs;
@@ -41,7 +40,6 @@ use trace::LOCK;
 use trace::RETURN;
 use trace::Reading;
 use trace::SPAWN;
-use trace::SYNC;
 use trace::UNLOCK;
 use trace::read_event;
 
@@ -265,14 +263,13 @@ fn step(
         (pieces (now (heads .exit)) (now (links .exit)) (now (events .exit)) (now (procedures .exit)) (now (sets .exit)))
         (now (starts .exit)) (now (joins .exit)) r ⌝ }
 {
-    let held = state.held;
     let pairs = state.pairs;
     match read_event(trace, state.at) {
         Reading::Refused(why, _) => Stepped::Stop(why.code()),
         Reading::Found(event, next) => {
-            let code = refusal(event, held, main_is_open(pairs));
-            if code != ACCEPTED {
-                return Stepped::Stop(code);
+            let running = main_is_open(pairs);
+            if !running {
+                return Stepped::Stop(AFTER_MAIN);
             }
             if event.is_access() {
                 return bring_access(
@@ -294,23 +291,7 @@ fn step(
     }
 }
 
-// The code, of 7 to 10, that an event is refused with, or 0. The tests are made from the last to the first, so that the first decides.
-fn refusal(event: Event, held: Held, running: bool) -> u32
-    ensures { λ r. ⌜ r ≡ refusal event (held .bits) running ⌝ }
-{
-    let kind = event.kind;
-    let lock = event.operand;
-    let unlawful = !event.lawful_holding() & !held.is_empty();
-    let again = (kind == LOCK) & held.has(lock);
-    let missing = (kind == UNLOCK) & !held.has(lock);
-    let after = !running;
-    let unlock = pick(missing, NOT_HELD, ACCEPTED);
-    let either = pick(again, HELD_ALREADY, unlock);
-    let held = pick(unlawful, HOLDING, either);
-    pick(after, AFTER_MAIN, held)
-}
-
-// An event that is no access, and that codes 7 to 10 let pass.
+// An event that is no access, while main runs. The rules of codes 8 to 10 each speak of other kinds, and are tested there.
 fn bring_other(
     state: State,
     event: Event,
@@ -319,8 +300,7 @@ fn bring_other(
     joins: &mut [u32],
 ) -> Stepped
     requires { ⌜ BagsRoom (now starts) (now joins) (state .pairs) ⌝ }
-    requires { ⌜ state .counts .events < mostBytes ⌝ }
-    requires { ⌜ state .counts .visits ≤ mostVisits ⌝ }
+    requires { ⌜ Small (state .counts) ⌝ }
     requires { ⌜ isAccess event ≡ false ⌝ }
     ensures { λ r.
         ⌜ ((trace report : List ℕ) (p : Pieces) → ComesNext trace state p (now (starts .entry)) (now (joins .entry)) event next
@@ -331,26 +311,35 @@ fn bring_other(
     let lock = event.operand;
     let held = state.held;
     let pairs = state.pairs;
+    if kind == LOCK {
+        if held.has(lock) {
+            return Stepped::Stop(HELD_ALREADY);
+        }
+        let then = held.take(lock);
+        return Stepped::Next(state.after_other(next, then, pairs, then.count()));
+    }
+    if kind == UNLOCK {
+        if !held.has(lock) {
+            return Stepped::Stop(NOT_HELD);
+        }
+        return Stepped::Next(state.after_other(next, held.release(lock), pairs, 0));
+    }
+    if !held.is_empty() {
+        return Stepped::Stop(HOLDING);
+    }
     if kind == SPAWN {
         return match spawn(pairs, starts, joins) {
-            Spawned::Begun(then) => Stepped::Next(state.after_other(next, held, then)),
+            Spawned::Begun(then) => Stepped::Next(state.after_other(next, held, then, 0)),
             Spawned::Full => Stepped::Stop(PROCEDURES_MANY),
         };
     }
     if kind == RETURN {
-        return Stepped::Next(state.after_other(next, held, returns(pairs)));
+        return Stepped::Next(state.after_other(next, held, returns(pairs, starts, joins), 0));
     }
-    if kind == SYNC {
-        sync(pairs, joins);
-        return Stepped::Next(state.after_other(next, held, pairs));
-    }
-    if kind == LOCK {
-        return Stepped::Next(state.after_other(next, held.take(lock), pairs));
-    }
-    Stepped::Next(state.after_other(next, held.release(lock), pairs))
+    Stepped::Next(state.after_other(next, held, sync(pairs, joins), 0))
 }
 
-// An access that codes 7 to 10 let pass.
+// An access, while main runs.
 fn bring_access(
     state: State,
     event: Event,
@@ -384,7 +373,7 @@ fn bring_access(
     let location = event.location();
     let entry = Entry {
         event: EventNumber(counts.events),
-        procedure: running(pairs, starts),
+        procedure: running(pairs),
         locks: held.set_of_access(event.is_read()),
     };
     match access(
@@ -402,7 +391,7 @@ fn bring_access(
     ) {
         Accessed::Done(then, visits, race) => {
             let races = note(report, counts.races, location, entry, race);
-            Stepped::Next(state.after(next, held, pairs, then, races, visits))
+            Stepped::Next(state.after(next, held, pairs, then, races, visits, 0))
         }
         Accessed::InNoBag => Stepped::Stop(IN_NO_BAG),
         Accessed::Full => Stepped::Stop(ENTRIES_MANY),
@@ -438,19 +427,37 @@ fn write(report: &mut [u32], races: u32, location: u32, earlier: EventNumber, la
 }
 
 impl Counts {
-    // The counts after an accepted event: so many accesses are reported then, so many visits came to them, and these locks are held.
-    fn after(self, races: u32, visits: u32, held: Held) -> Counts
-        requires { ⌜ self .events < mostBytes ⌝ }
-        requires { ⌜ self .visits ≤ mostVisits ⌝ }
-        ensures { λ r. ⌜ r ≡ countsAfter self races visits held ⌝ }
+    // The counts after an accepted event: so many accesses are reported then, so many visits came to them, and so many locks are held,
+    // or 0 where no lock was taken.
+    fn after(self, races: u32, visits: u32, holding: u32) -> Counts
+        requires { ⌜ Small self ⌝ }
+        ensures { λ r. ⌜ r ≡ countsAfter self races visits holding ⌝ }
     {
         Counts {
             events: self.events + 1,
             races: races,
             visits: self.visits + visits as u64,
-            most: larger(self.most, held.count()),
+            most: larger(self.most, holding),
         }
     }
+}
+
+// Brings the counts forward by one accepted event.
+fn bring(counts: &mut Counts, races: u32, visits: u32, holding: u32)
+    requires { ⌜ Small (now counts) ⌝ }
+    ensures { λ _. ⌜ now (counts .exit) ≡ countsAfter (now (counts .entry)) races visits holding ⌝ }
+{
+    *counts = counts.after(races, visits, holding);
+}
+
+// The same by value: the counts lie in a local, which is lent.
+fn brought(counts: Counts, races: u32, visits: u32, holding: u32) -> Counts
+    requires { ⌜ Small counts ⌝ }
+    ensures { λ r. ⌜ r ≡ countsAfter counts races visits holding ⌝ }
+{
+    let mut then = counts;
+    bring(&mut then, races, visits, holding);
+    then
 }
 
 impl State {
@@ -463,13 +470,13 @@ impl State {
         slots: Slots,
         races: u32,
         visits: u32,
+        holding: u32,
     ) -> State
-        requires { ⌜ self .counts .events < mostBytes ⌝ }
-        requires { ⌜ self .counts .visits ≤ mostVisits ⌝ }
-        ensures { λ r. ⌜ r ≡ stateAfter self next held pairs slots races visits ⌝ }
+        requires { ⌜ Small (self .counts) ⌝ }
+        ensures { λ r. ⌜ r ≡ stateAfter self next held pairs slots races visits holding ⌝ }
     {
         let counts = self.counts;
-        let then = counts.after(races, visits, held);
+        let then = brought(counts, races, visits, holding);
         State {
             at: next,
             held: held,
@@ -479,15 +486,15 @@ impl State {
         }
     }
 
-    // The state after an accepted event that is no access: nothing is kept, visited or reported anew.
-    fn after_other(self, next: usize, held: Held, pairs: Pairs) -> State
-        requires { ⌜ self .counts .events < mostBytes ⌝ }
-        requires { ⌜ self .counts .visits ≤ mostVisits ⌝ }
-        ensures { λ r. ⌜ r ≡ stateAfter self next held pairs (self .slots) (self .counts .races) 0 ⌝ }
+    // The state after an accepted event that is no access: nothing is kept, visited or reported anew. So many locks are held then, or 0
+    // where no lock was taken.
+    fn after_other(self, next: usize, held: Held, pairs: Pairs, holding: u32) -> State
+        requires { ⌜ Small (self .counts) ⌝ }
+        ensures { λ r. ⌜ r ≡ stateAfter self next held pairs (self .slots) (self .counts .races) 0 holding ⌝ }
     {
         let slots = self.slots;
         let counts = self.counts;
-        self.after(next, held, pairs, slots, counts.races, 0)
+        self.after(next, held, pairs, slots, counts.races, 0, holding)
     }
 
     // The answer with this code, the counts being as they stand.

@@ -15,10 +15,10 @@ use Rattle.kept.specs.declared.Slots.{Slots}
 use Rattle.kept.specs.declared.Seen.{Seen}
 use Rattle.kept.specs.declared.Named.{Named}
 use Rattle.kept.specs.declared.Accessed.the-variants.{Done, InNoBag, Full}
-use Rattle.kept.specs.Lists.{those}
+use Rattle.kept.specs.Lists.{any, those}
 use Rattle.kept.specs.Rules.{dropped, left, added, after, changedAt, inAll}
 use Rattle.kept.specs.Pieces.{Pieces, pieces, pieceSize, slotsOf, slotsFreed, entryAt, listsIn, Chain, LaidOut, Room}
-use Rattle.kept.specs.Access.{parallelBy, accessed, placeAt, freeing, nextSlot, freedThen, usedThen, linkTo}
+use Rattle.kept.specs.Access.{parallelBy, inNoBag, accessed, placeAt, freeing, nextSlot, freedThen, usedThen, linkTo}
 use Rattle.kept.specs.Access.{drops, isOmitted, slotsLeft, pool, slotsAfter, Accepted}
 use Rattle.kept.specs.Parts.{isFull, namedAt, headsLinked, linksLinked, dropsBy, howMany, Pruned, slotFor, slotsThen}
 use Rattle.kept.proofs.Lists.{either-way}
@@ -80,6 +80,16 @@ link-to-none : (ss : List ℕ) → eqb (linkTo ss) 0 ≡ eqb (length ss) 0
 link-to-none [] = refl
 link-to-none (s ∷ ss) = eqb·suc-zero s ∙ sym (eqb·suc-zero (length ss))
 
+-- An entry that is left out needs no slot.
+pub omitted-not-full : (seen : Seen) (slots : Slots) → seen .omitted ≡ true → isFull seen slots ≡ false
+omitted-not-full seen slots out = rw out refl
+
+-- An entry whose procedure is in no bag.
+pub answer-no-bag : (bs : List Bags) (x : ℕ) (e : Entry) (p : Pieces) (slots′ : Slots) → any (inNoBag bs) (listsIn p x) ≡ true
+    → InNoBag ≡ accessed bs x e (listsIn p) slots′
+unfolding accessed
+answer-no-bag bs x e p slots′ stray = rw stray
+
 module _ (bs : List Bags) (x : ℕ) (e : Entry) (p : Pieces) (slots : Slots) (room : Room p slots) (here : x < pieceSize) (seen : Seen)
     (told : Told bs x e p slots seen) where
   -- ---- the answer
@@ -117,22 +127,17 @@ module _ (bs : List Bags) (x : ℕ) (e : Entry) (p : Pieces) (slots : Slots) (ro
       (ap (λ (n : ℕ). eqb n 0) (chain-link (p .links) (slots .freed) (slotsFreed (p .links) slots) (room .laid-out .freed-chain))
       ∙ link-to-none (slotsFreed (p .links) slots))
 
-  -- An entry whose procedure is in no bag.
-  pub answer-no-bag : (slots′ : Slots) → seen .stray ≡ true → InNoBag ≡ accessed bs x e (listsIn p) slots′
-  unfolding accessed
-  answer-no-bag slots′ stray = rw (sym (told .stray-told) ∙ stray)
-
   -- No slot for the entry.
-  pub answer-full : (slots′ : Slots) → seen .stray ≡ false → isFull seen slots ≡ true → Full ≡ accessed bs x e (listsIn p) slots′
+  pub answer-full : (slots′ : Slots) → any (inNoBag bs) (listsIn p x) ≡ false → isFull seen slots ≡ true → Full ≡ accessed bs x e (listsIn p) slots′
   unfolding accessed
-  answer-full slots′ stray full = rw (sym (told .stray-told) ∙ stray, sym full-told ∙ full)
+  answer-full slots′ bagged full = rw (bagged, sym full-told ∙ full)
 
   -- Neither.
-  pub answer-done : (slots′ : Slots) (race : Named) → seen .stray ≡ false → isFull seen slots ≡ false
+  pub answer-done : (slots′ : Slots) (race : Named) → any (inNoBag bs) (listsIn p x) ≡ false → isFull seen slots ≡ false
       → race ≡ namedAt (p .events) (p .procedures) (p .sets) (seen .race) → Done slots′ (seen .visits) race ≡ accessed bs x e (listsIn p) slots′
   unfolding accessed
-  answer-done slots′ race stray full named =
-      rw (sym (told .stray-told) ∙ stray, sym full-told ∙ full) (ap₂ (Done slots′) (told .visits-told) (named ∙ told .race-told))
+  answer-done slots′ race bagged full named =
+      rw (bagged, sym full-told ∙ full) (ap₂ (Done slots′) (told .visits-told) (named ∙ told .race-told))
 
   -- ---- what is left
 

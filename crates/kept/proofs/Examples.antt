@@ -14,12 +14,13 @@ use Rattle.kept.specs.declared.Entry.{Entry}
 use Rattle.kept.specs.declared.Slots.{Slots}
 use Rattle.kept.specs.declared.Named.{Named}
 use Rattle.kept.specs.declared.Accessed.the-variants.{Done, InNoBag, Full}
+use Rattle.kept.specs.declared.Looked.the-variants.{Stray}
 use Rattle.kept.specs.Lists.{any, first, those}
 use Rattle.kept.specs.Rules.{races, reported, named, dropped, left, omits, added, after, changedAt}
 use Rattle.kept.specs.Theorem.{Run, Race, Lawful, kept, visited}
 use Rattle.kept.specs.Pieces.{pieces, slotsFrom, entryAt, cleared}
 use Rattle.kept.specs.Access.{parallelBy, codeOf, freeing, nextSlot, freedThen, usedThen}
-use Rattle.kept.specs.Parts.{nothingSeen, weighedEntry, seenOver, isFull}
+use Rattle.kept.specs.Parts.{nothingSeen, weighedEntry, seenOver, someStray, lookedOver, isFull}
 
 -- The entry of an event, made by a procedure under a lock set.
 abbrev entryBy : ℕ → ℕ → ℕ → Entry
@@ -137,16 +138,14 @@ first-is-named = refl
 -- is to be dropped, so the last that stays is in slot 0, which the link 1 names.
 pub seen-of-two :
     seenOver mainRuns (new 1) (0 ∷ 0 ∷ []) (0 ∷ 1 ∷ []) (0 ∷ 1 ∷ []) nothingSeen
-    ≡ record { visits = 2; race = 0; omitted = false; dropped = 1; stray = false; last = 1 }
+    ≡ record { visits = 2; race = 0; omitted = false; dropped = 1; last = 1 }
 unfolding seenOver weighedEntry races dropped omits isIn every apart within member inSBag inPBag inSomeBag
 seen-of-two = refl
 
 -- An entry of procedure 2 is in no bag, also where the sets share a lock and neither lies within the other.
-pub seen-in-no-bag :
-    seenOver mainRuns (new 3) (2 ∷ []) (6 ∷ []) (0 ∷ []) nothingSeen
-    ≡ record { visits = 1; race = 0; omitted = false; dropped = 0; stray = true; last = 1 }
-unfolding seenOver weighedEntry races dropped omits isIn every apart within member inSBag inPBag inSomeBag
-seen-in-no-bag = refl
+pub looked-in-no-bag : lookedOver mainRuns (new 3) (2 ∷ []) (6 ∷ []) (0 ∷ []) ≡ Stray
+unfolding lookedOver someStray any member inSBag inPBag inSomeBag
+looked-in-no-bag = refl
 
 -- ---- slots
 
@@ -162,8 +161,8 @@ pub full-or-not :
     (isFull nothingSeen (record { freed = 0; used = 4096 }) ≡ true)
     × (isFull nothingSeen (record { freed = 0; used = 4095 }) ≡ false)
     × (isFull nothingSeen (record { freed = 3; used = 4096 }) ≡ false)
-    × (isFull (record { visits = 1; race = 0; omitted = false; dropped = 1; stray = false; last = 0 }) (record { freed = 0; used = 4096 }) ≡ false)
-    × (isFull (record { visits = 1; race = 0; omitted = true; dropped = 0; stray = false; last = 1 }) (record { freed = 0; used = 4096 }) ≡ false)
+    × (isFull (record { visits = 1; race = 0; omitted = false; dropped = 1; last = 0 }) (record { freed = 0; used = 4096 }) ≡ false)
+    × (isFull (record { visits = 1; race = 0; omitted = true; dropped = 0; last = 1 }) (record { freed = 0; used = 4096 }) ≡ false)
 full-or-not = (refl, refl, refl, refl, refl)
 
 -- Link 1 leads to slot 0, and from there the link 0 ends the list; a link to the slot itself would never end it.

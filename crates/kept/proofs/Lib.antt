@@ -9,6 +9,7 @@ pub mod Laid
 pub mod Pruning
 pub mod Telling
 pub mod Accepting
+pub mod One
 pub mod Meaning
 pub mod Through
 pub mod Determined

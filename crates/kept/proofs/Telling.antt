@@ -1,7 +1,7 @@
 -- What is seen of a whole list is what the rules say of it, one count or test at a time, each by induction over the slots. Assumes nothing.
 use Prim.Native.Nat.{ℕ, zero, suc, _+_, _≤_, _<_}
 use mathlib.Core.Path.{_≡_, refl, sym, ap, _∙_}
-use mathlib.Core.Bool.{Bool, true, false, cond, not, _&&_, _||_, or-false}
+use mathlib.Core.Bool.{Bool, true, false, cond, not, _&&_, _||_, or-false, true≢false}
 use mathlib.Core.List.{List, [], _∷_, map}
 use mathlib.Core.Option.{Option, none, some}
 use native.Mathlib.Omega.{arith}
@@ -10,12 +10,14 @@ use lib.ListN.{length, getD, length-map}
 use Rattle.bags.specs.Bags.{Bags}
 use Rattle.kept.specs.declared.Entry.{Entry}
 use Rattle.kept.specs.declared.Seen.{Seen}
+use Rattle.kept.specs.declared.Looked.{Looked}
+use Rattle.kept.specs.declared.Looked.the-variants.{All, Stray}
 use Rattle.kept.specs.declared.Slots.{Slots}
 use Rattle.kept.specs.Lists.{any, first, those}
 use Rattle.kept.specs.Rules.{races, named, dropped, omits}
 use Rattle.kept.specs.Pieces.{Pieces, pieceSize, slotsOf, slotsFreed, entryAt, listsIn, Chain, Room}
 use Rattle.kept.specs.Access.{parallelBy, inNoBag, nobodyOr, drops, isOmitted, slotsLeft}
-use Rattle.kept.specs.Parts.{entryOf, nothingSeen, weighedEntry, seenOver, Walkable, namedAt, dropsBy, howMany}
+use Rattle.kept.specs.Parts.{entryOf, nothingSeen, weighedEntry, seenOver, someStray, lookedOver, Walkable, namedAt, dropsBy, howMany}
 use Rattle.kept.proofs.Lists.{either-way}
 use Rattle.kept.proofs.Chains.{lastOf}
 use Rattle.kept.proofs.Laid.{laid-few}
@@ -77,6 +79,21 @@ race-of-none : (r : ℕ) → r ≡ cond (eqb r 0) 0 r
 race-of-none zero = refl
 race-of-none (suc r) = rw (eqb·suc-zero r)
 
+-- The two answers differ, and everything seen is what it holds.
+abbrev isStray : Looked → Bool
+isStray Stray = true
+isStray (All seen) = false
+
+abbrev seenIn : Looked → Seen
+seenIn Stray = nothingSeen
+seenIn (All seen) = seen
+
+stray-or-all : {seen : Seen} → Stray ≡ All seen → ⊥
+stray-or-all is = true≢false (ap isStray is)
+
+all-is : {seen seen′ : Seen} → All seen ≡ All seen′ → seen ≡ seen′
+all-is is = ap seenIn is
+
 -- ---- what is seen
 
 module _ (bs : List Bags) (e : Entry) (procedures sets : List ℕ) where
@@ -96,11 +113,6 @@ module _ (bs : List Bags) (e : Entry) (procedures sets : List ℕ) where
   unfolding seenOver weighedEntry
   visits-seen [] seen = omega arith
   visits-seen (s ∷ ss) seen = omega (arith, visits-seen ss (next s seen))
-
-  stray-seen : (ss : List ℕ) (seen : Seen) → seenThen ss seen .stray ≡ (seen .stray || any (λ s. inNoBag bs (at s)) ss)
-  unfolding seenOver weighedEntry any
-  stray-seen [] seen = sym (or-false (seen .stray))
-  stray-seen (s ∷ ss) seen = stray-seen ss (next s seen) ∙ or-of-more (seen .stray) (inNoBag bs (at s)) (any (λ s. inNoBag bs (at s)) ss)
 
   omitted-seen : (ss : List ℕ) (seen : Seen) → seenThen ss seen .omitted ≡ (seen .omitted || any (λ s. omits (parallelBy bs) e (at s)) ss)
   unfolding seenOver weighedEntry any
@@ -150,7 +162,6 @@ module _ (bs : List Bags) (x : ℕ) (e : Entry) (p : Pieces) (slots : Slots) whe
   -- What is seen tells what the rules say of the list that the pieces hold.
   pub record Told (seen : Seen) : Type 0 where
     pub visits-told : seen .visits ≡ length (listsIn p x)
-    pub stray-told : seen .stray ≡ any (inNoBag bs) (listsIn p x)
     pub omitted-told : seen .omitted ≡ isOmitted bs x e p
     pub dropped-told : seen .dropped ≡ howMany (drops bs e p) (slotsOf (p .heads) (p .links) x)
     pub last-told : seen .last ≡ lastOf (slotsLeft bs x e p)
@@ -168,7 +179,6 @@ module _ (bs : List Bags) (x : ℕ) (e : Entry) (p : Pieces) (slots : Slots) whe
       record {
         visits-told =
             ap (λ (s : Seen). s .visits) is ∙ visits-seen bs e procedures sets ss nothingSeen ∙ zero-more (length ss) ∙ sym (length-map ss (entryAt p));
-        stray-told = ap (λ (s : Seen). s .stray) is ∙ stray-seen bs e procedures sets ss nothingSeen ∙ sym (any-of-map (entryAt p) (inNoBag bs) ss);
         omitted-told =
             ap (λ (s : Seen). s .omitted) is ∙ omitted-seen bs e procedures sets ss nothingSeen
             ∙ sym (any-of-map (entryAt p) (omits (parallelBy bs) e) ss);
@@ -192,3 +202,25 @@ room-walkable p slots x room here = record {
   chain = room .laid-out .chains x here;
   few = laid-few (p .heads) (p .links) slots (slotsOf (p .heads) (p .links)) (slotsFreed (p .links) slots) (room .laid-out) x here;
 }
+
+-- What looking at a list gives, by the list that the pieces hold: some entry's procedure is in no bag, or none is and everything is seen.
+module _ (bs : List Bags) (x : ℕ) (e : Entry) (p : Pieces) (slots : Slots) where
+  abbrev looked : Looked
+  looked = lookedOver bs e (p .procedures) (p .sets) (slotsOf (p .heads) (p .links) x)
+
+  stray-is : someStray bs e (p .procedures) (p .sets) (slotsOf (p .heads) (p .links) x) ≡ any (inNoBag bs) (listsIn p x)
+  unfolding someStray listsIn
+  stray-is = sym (any-of-map (entryAt p) (inNoBag bs) (slotsOf (p .heads) (p .links) x))
+
+  pub looked-stray : Stray ≡ looked → any (inNoBag bs) (listsIn p x) ≡ true
+  unfolding lookedOver
+  looked-stray is =
+      either-way (someStray bs e (p .procedures) (p .sets) (slotsOf (p .heads) (p .links) x)) (λ q. sym stray-is ∙ q)
+      (λ q. absurd (stray-or-all (rw q at is)))
+
+  pub looked-all : (seen : Seen) → Walkable (p .heads) (p .links) x → All seen ≡ looked
+      → (any (inNoBag bs) (listsIn p x) ≡ false) × (seen ≡ seenOver bs e (p .procedures) (p .sets) (slotsOf (p .heads) (p .links) x) nothingSeen)
+  unfolding lookedOver
+  looked-all seen walkable is =
+      either-way (someStray bs e (p .procedures) (p .sets) (slotsOf (p .heads) (p .links) x)) (λ q. absurd (stray-or-all (sym (rw q at is))))
+      (λ q. (sym stray-is ∙ q, all-is (rw q at is)))

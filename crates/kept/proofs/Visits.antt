@@ -2,56 +2,58 @@
 -- whole list. Assumes nothing.
 use Prim.Native.Nat.{ℕ, suc, _+_, _-_, _≤_, _<_}
 use mathlib.Core.Path.{_≡_, refl, sym, ap, _∙_}
-use mathlib.Core.Bool.{Bool, true, false, cond, not, _&&_, _||_, and-false, and-true, true≢false}
+use mathlib.Core.Bool.{Bool, true, false, cond, not, _&&_, _||_, and-false, and-true, or-false, true≢false}
 use mathlib.Core.List.{List, [], _∷_}
 use native.Mathlib.Omega.{arith}
 use lib.ListN.{length, getD}
 use borrow.Author.Tests.{not-true, not-false}
 use Rattle.locks.specs.Sets.{apart, within}
 use Rattle.bags.specs.declared.ask.Answer.{Answer}
-use Rattle.bags.specs.declared.ask.Answer.the-variants.{InSeries, InParallel, InNoBag}
 use Rattle.bags.specs.Bags.{Bags, inPBag, inSomeBag}
-use Rattle.bags.specs.Ask.{saysParallel, codeOf}
+use Rattle.bags.specs.Ask.{saysParallel}
 use Rattle.kept.specs.declared.Entry.{Entry}
 use Rattle.kept.specs.declared.Seen.{Seen}
+use Rattle.kept.specs.declared.Looked.the-variants.{All, Stray}
+use Rattle.kept.specs.declared.Weighed.{Weighed}
+use Rattle.kept.specs.declared.Weighed.the-variants.{Stays, Goes, Beside}
+use Rattle.kept.specs.Lists.{any}
 use Rattle.kept.specs.Rules.{races, dropped, omits}
 use Rattle.kept.specs.Pieces.{pieceSize, Chain}
 use Rattle.kept.specs.Access.{parallelBy}
-use Rattle.kept.specs.Parts.{saysNoBag, entryOf, nothingSeen, weighed, weighedEntry, seenOver}
+use Rattle.kept.specs.Parts.{entryOf, nothingSeen, into, weighedEntry, seenOver, someStray, lookedOver}
 
 -- ---- one entry
 
--- The answer's code tells whether the procedure is in no bag.
-no-bag-told : (answer : Answer) (b : Bool) → _≡_ {A = ℕ} (codeOf answer) (cond b 0 12) → saysNoBag answer ≡ not b
-no-bag-told InSeries true e = refl
-no-bag-told InSeries false e = let z : _≡_ {A = ℕ} 0 12 = e in absurd (omega arith)
-no-bag-told InParallel true e = refl
-no-bag-told InParallel false e = let z : _≡_ {A = ℕ} 0 12 = e in absurd (omega arith)
-no-bag-told InNoBag true e = let z : _≡_ {A = ℕ} 12 0 = e in absurd (omega arith)
-no-bag-told InNoBag false e = refl
+module _ (bs : List Bags) (e : Entry) (at procedure locks : ℕ) (seen : Seen) {a w c : Bool} (apart-is : a ≡ apart locks (e .locks))
+    (within-is : w ≡ within locks (e .locks)) (contains-is : c ≡ within (e .locks) locks) where
+  abbrev told : Seen
+  told = weighedEntry bs e at (entryOf procedure locks) seen
 
-module _ (bs : List Bags) (e : Entry) (at procedure locks : ℕ) (seen : Seen) {a w c : Bool} where
   -- Where the sets share something and neither lies within the other, "parallel" plays no part.
-  pub weighed-unasked : {b : Bool} {r : Seen} → a ≡ apart locks (e .locks) → w ≡ within locks (e .locks) → c ≡ within (e .locks) locks
-      → not ((a || w) || c) ≡ true → b ≡ inSomeBag procedure bs → r ≡ weighed at (not b) false false false seen
-      → r ≡ weighedEntry bs e at (entryOf procedure locks) seen
+  pub stays-unasked : not ((a || w) || c) ≡ true → into Stays at seen ≡ told
   unfolding weighedEntry races dropped omits
-  weighed-unasked {b} {r} p q s t u v = v ∙ go a w c p q s t
+  stays-unasked t = go a w c apart-is within-is contains-is t
     where
       go : (a w c : Bool) → a ≡ apart locks (e .locks) → w ≡ within locks (e .locks) → c ≡ within (e .locks) locks → not ((a || w) || c) ≡ true
-          → weighed at (not b) false false false seen ≡ weighedEntry bs e at (entryOf procedure locks) seen
-      go false false false p q s t = simp (sym p, sym q, sym s, u, and-false)
+          → into Stays at seen ≡ told
+      go false false false p q s t = simp (sym p, sym q, sym s, and-false)
       go true w c p q s t = absurd (true≢false (sym t))
       go false true c p q s t = absurd (true≢false (sym t))
       go false false true p q s t = absurd (true≢false (sym t))
 
   -- Else the bags' answer tells.
-  pub weighed-asked : (answer : Answer) {parallel stray : Bool} {r : Seen} → a ≡ apart locks (e .locks) → w ≡ within locks (e .locks)
-      → c ≡ within (e .locks) locks → saysParallel answer ≡ inPBag procedure bs → _≡_ {A = ℕ} (codeOf answer) (cond (inSomeBag procedure bs) 0 12)
-      → parallel ≡ saysParallel answer → stray ≡ saysNoBag answer
-      → r ≡ weighed at stray (parallel && a) (not parallel && c) (parallel && w) seen → r ≡ weighedEntry bs e at (entryOf procedure locks) seen
-  unfolding weighedEntry races dropped omits
-  weighed-asked answer p q s told code par str v = v ∙ simp (par ∙ told, str ∙ no-bag-told answer (inSomeBag procedure bs) code, p, q, s)
+  module _ (answer : Answer) {parallel : Bool} (asked : saysParallel answer ≡ inPBag procedure bs) (said : parallel ≡ saysParallel answer) where
+    pub beside-asked : parallel ≡ true → into (Beside a w) at seen ≡ told
+    unfolding weighedEntry races dropped omits
+    beside-asked so = simp (sym asked ∙ sym said ∙ so, apart-is, within-is)
+
+    pub goes-asked : parallel ≡ false → c ≡ true → into Goes at seen ≡ told
+    unfolding weighedEntry races dropped omits
+    goes-asked not-so contains = simp (sym asked ∙ sym said ∙ not-so, sym contains-is ∙ contains)
+
+    pub stays-asked : parallel ≡ false → c ≡ false → into Stays at seen ≡ told
+    unfolding weighedEntry races dropped omits
+    stays-asked not-so contains = simp (sym asked ∙ sym said ∙ not-so, sym contains-is ∙ contains)
 
 -- An entry whose set does not contain the set of e is not dropped; of others the bags' answer tells.
 module _ (bs : List Bags) (e : Entry) (procedure locks : ℕ) {c : Bool} where
@@ -71,22 +73,37 @@ few-more : (b : Bool) (d v : ℕ) → d ≤ v → cond b (d + 1) d ≤ v + 1
 few-more true d v h = omega arith
 few-more false d v h = omega arith
 
+-- One entry more, as it is counted.
+pub stays-in : (at : ℕ) (seen : Seen)
+    → record { visits = seen .visits + 1; race = seen .race; omitted = seen .omitted; dropped = seen .dropped; last = at } ≡ into Stays at seen
+stays-in at seen = rw (or-false (seen .omitted))
+
+pub goes-in : (at : ℕ) (seen : Seen)
+    → record { visits = seen .visits + 1; race = seen .race; omitted = seen .omitted; dropped = seen .dropped + 1; last = seen .last } ≡ into Goes at seen
+goes-in at seen = rw (or-false (seen .omitted))
+
 -- An entry weighed is a visit.
-pub one-visit-more : (bs : List Bags) (e : Entry) (at : ℕ) (k : Entry) (seen r : Seen) → r ≡ weighedEntry bs e at k seen → r .visits ≡ seen .visits + 1
-unfolding weighedEntry
-one-visit-more bs e at k seen r q = ap (λ (s : Seen). s .visits) q
+pub one-visit-more : (w : Weighed) (at : ℕ) (seen r : Seen) → r ≡ into w at seen → r .visits ≡ seen .visits + 1
+one-visit-more Stays at seen r q = ap (λ (s : Seen). s .visits) q
+one-visit-more Goes at seen r q = ap (λ (s : Seen). s .visits) q
+one-visit-more (Beside races omits) at seen r q = ap (λ (s : Seen). s .visits) q
 
 module _ (bs : List Bags) (e : Entry) (links procedures sets whole : List ℕ) where
-  -- The entries still to be visited, seen after those already seen, make up what is seen of the whole list.
+  abbrev entry : ℕ → Entry
+  entry s = entryOf (getD procedures s 0) (getD sets s 0)
+
+  -- The entries still to be visited, seen after those already seen, make up what is seen of the whole list; and none so far was in no bag.
   pub record Walking (seen : Seen) (at : ℕ) : Type 0 where
     pub rest : List ℕ
     pub chain : Chain links at rest
     pub counted : seen .visits + length rest ≤ pieceSize
     pub fewer : seen .dropped ≤ seen .visits
     pub same : seenOver bs e procedures sets rest seen ≡ seenOver bs e procedures sets whole nothingSeen
+    pub stray-ahead : someStray bs e procedures sets rest ≡ someStray bs e procedures sets whole
 
-  pub walk-begins : (at : ℕ) → Chain links at whole → length whole ≤ pieceSize → Walking nothingSeen at
-  walk-begins at chain few = record { rest = whole; chain = chain; counted = omega arith; fewer = omega arith; same = refl }
+  pub walk-begins : (at first : ℕ) (none : Seen) → at ≡ first → none ≡ nothingSeen → Chain links first whole → length whole ≤ pieceSize → Walking none at
+  walk-begins at first none begins is chain few =
+      rw (begins, is) (record { rest = whole; chain = chain; counted = omega arith; fewer = omega arith; same = refl; stray-ahead = refl })
 
   -- While a link leads on, it leads to a slot within the pieces, and not everything is counted.
   pub walk-inside : (seen : Seen) (at : ℕ) → Walking seen at → (at ≡ 0 → ⊥) → (at ≤ pieceSize) × (seen .visits < pieceSize)
@@ -97,32 +114,50 @@ module _ (bs : List Bags) (e : Entry) (links procedures sets whole : List ℕ) w
       go [] chain counted = absurd (ne chain)
       go (s ∷ ss) chain counted = (omega (arith, chain .0, chain .1), omega arith)
 
-  pub walk-goes-on : (seen : Seen) (at : ℕ) (r : Seen) → Walking seen at → (at ≡ 0 → ⊥)
-      → r ≡ weighedEntry bs e at (entryOf (getD procedures (at - 1) 0) (getD sets (at - 1) 0)) seen → Walking r (getD links (at - 1) 0)
-  unfolding Chain seenOver weighedEntry
-  walk-goes-on seen at r w ne q = go (w .rest) (w .chain) (w .counted) (w .same)
+  -- An entry in no bag is the answer.
+  pub walk-strays : (seen : Seen) (at : ℕ) {b : Bool} → Walking seen at → (at ≡ 0 → ⊥) → b ≡ inSomeBag (getD procedures (at - 1) 0) bs → not b ≡ true
+      → Stray ≡ lookedOver bs e procedures sets whole
+  unfolding Chain someStray lookedOver any
+  walk-strays seen at {b} w ne is stray = go (w .rest) (w .chain) (w .stray-ahead)
+    where
+      go : (rest : List ℕ) → Chain links at rest → someStray bs e procedures sets rest ≡ someStray bs e procedures sets whole
+          → Stray ≡ lookedOver bs e procedures sets whole
+      go [] chain ahead = absurd (ne chain)
+      go (s ∷ ss) chain ahead =
+          let here : at - 1 ≡ s = omega (arith, chain .0) in
+          let gone : inSomeBag (getD procedures s 0) bs ≡ false = rw here at (sym is ∙ not-true b stray) in
+          rw (sym ahead, gone)
+
+  -- Else it is weighed, and the walk goes on.
+  pub walk-goes-on : (seen : Seen) (at next : ℕ) (v : Weighed) (r : Seen) {b : Bool} → Walking seen at → (at ≡ 0 → ⊥)
+      → b ≡ inSomeBag (getD procedures (at - 1) 0) bs → not b ≡ false
+      → ((at′ : ℕ) (seen′ : Seen) → into v at′ seen′ ≡ weighedEntry bs e at′ (entry (at - 1)) seen′) → r ≡ into v at seen
+      → next ≡ getD links (at - 1) 0 → Walking r next
+  unfolding Chain seenOver weighedEntry someStray any
+  walk-goes-on seen at next v r {b} w ne is bagged told q onward = go (w .rest) (w .chain) (w .counted) (w .same) (w .stray-ahead)
     where
       go : (rest : List ℕ) → Chain links at rest → seen .visits + length rest ≤ pieceSize
-          → seenOver bs e procedures sets rest seen ≡ seenOver bs e procedures sets whole nothingSeen → Walking r (getD links (at - 1) 0)
-      go [] chain counted same = absurd (ne chain)
-      go (s ∷ ss) chain counted same =
+          → seenOver bs e procedures sets rest seen ≡ seenOver bs e procedures sets whole nothingSeen
+          → someStray bs e procedures sets rest ≡ someStray bs e procedures sets whole → Walking r next
+      go [] chain counted same ahead = absurd (ne chain)
+      go (s ∷ ss) chain counted same ahead =
           let here : at - 1 ≡ s = omega (arith, chain .0) in
-          let now : r ≡ weighedEntry bs e (suc s) (entryOf (getD procedures s 0) (getD sets s 0)) seen = rw (here, chain .0) at q in
+          let now : r ≡ weighedEntry bs e (suc s) (entry s) seen = rw (here, chain .0) at (q ∙ told at seen) in
+          let found : inSomeBag (getD procedures s 0) bs ≡ true = rw here at (sym is ∙ not-false b bagged) in
           record {
             rest = ss;
-            chain = rw here (chain .2);
+            chain = rw (onward, here) (chain .2);
             counted = rw now (omega arith);
-            fewer =
-                rw now
-                (few-more (dropped (parallelBy bs) e (entryOf (getD procedures s 0) (getD sets s 0))) (seen .dropped) (seen .visits) (w .fewer));
+            fewer = rw now (few-more (dropped (parallelBy bs) e (entry s)) (seen .dropped) (seen .visits) (w .fewer));
             same = ap (seenOver bs e procedures sets ss) now ∙ same;
+            stray-ahead = rw found at ahead;
           }
 
-  pub walk-ends : (seen : Seen) (at : ℕ) → Walking seen at → at ≡ 0 → seen ≡ seenOver bs e procedures sets whole nothingSeen
-  unfolding Chain seenOver
-  walk-ends seen at w z = go (w .rest) (w .chain) (w .same)
+  pub walk-ends : (seen : Seen) (at : ℕ) → Walking seen at → at ≡ 0 → All seen ≡ lookedOver bs e procedures sets whole
+  unfolding Chain seenOver someStray lookedOver any
+  walk-ends seen at w z = go (w .rest) (w .chain) (w .same) (w .stray-ahead)
     where
       go : (rest : List ℕ) → Chain links at rest → seenOver bs e procedures sets rest seen ≡ seenOver bs e procedures sets whole nothingSeen
-          → seen ≡ seenOver bs e procedures sets whole nothingSeen
-      go [] chain same = same
-      go (s ∷ ss) chain same = absurd (omega (arith, chain .0))
+          → someStray bs e procedures sets rest ≡ someStray bs e procedures sets whole → All seen ≡ lookedOver bs e procedures sets whole
+      go [] chain same ahead = rw (sym ahead) (ap All same)
+      go (s ∷ ss) chain same ahead = absurd (omega (arith, chain .0))

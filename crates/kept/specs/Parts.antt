@@ -5,50 +5,57 @@ use mathlib.Core.Bool.{Bool, true, false, cond, not, _&&_, _||_}
 use mathlib.Core.List.{List, [], _∷_}
 use lib.Dec.{eqb}
 use lib.ListN.{length, getD, set}
-use Rattle.bags.specs.declared.ask.Answer.{Answer}
-use Rattle.bags.specs.declared.ask.Answer.the-variants.{InSeries, InParallel, InNoBag}
 use Rattle.bags.specs.Bags.{Bags}
 use Rattle.kept.specs.declared.Entry.{Entry}
 use Rattle.kept.specs.declared.Slots.{Slots}
 use Rattle.kept.specs.declared.Seen.{Seen}
+use Rattle.kept.specs.declared.Looked.{Looked}
+use Rattle.kept.specs.declared.Looked.the-variants.{All, Stray}
+use Rattle.kept.specs.declared.Weighed.{Weighed}
+use Rattle.kept.specs.declared.Weighed.the-variants.{Stays, Goes, Beside}
 use Rattle.kept.specs.declared.Named.{Named}
 use Rattle.kept.specs.declared.Named.the-variants.{Nobody, With}
-use Rattle.kept.specs.Lists.{those}
+use Rattle.kept.specs.Lists.{any, those}
 use Rattle.kept.specs.Rules.{races, dropped, omits}
 use Rattle.kept.specs.Pieces.{pieceSize, entryIn, slotsOf, slotsFreed, Chain, LaidOut, RestKept}
 use Rattle.kept.specs.Access.{parallelBy, inNoBag, placeAt, freeing}
-
--- The bags' answer says that a procedure is in no bag.
-abbrev pub saysNoBag : Answer → Bool
-saysNoBag InSeries = false
-saysNoBag InParallel = false
-saysNoBag InNoBag = true
 
 -- An entry as far as the rules look at it: its procedure and its lock set.
 abbrev pub entryOf : ℕ → ℕ → Entry
 entryOf procedure locks = record { event = record { 0 = 0 }; procedure = record { 0 = procedure }; locks = locks }
 
--- Nothing is seen yet; one entry more; and, at an access e, the entries in these slots one after the other.
+-- Nothing is seen yet; one entry more, by what becomes of it or by the rules; and, at an access e, the entries in these slots one after the other.
 abbrev pub nothingSeen : Seen
-nothingSeen = record { visits = 0; race = 0; omitted = false; dropped = 0; stray = false; last = 0 }
+nothingSeen = record { visits = 0; race = 0; omitted = false; dropped = 0; last = 0 }
 
-abbrev pub weighed : ℕ → Bool → Bool → Bool → Bool → Seen → Seen
-weighed at stray racing drops omits seen = record {
+abbrev pub weighed : ℕ → Bool → Bool → Bool → Seen → Seen
+weighed at racing drops omits seen = record {
   visits = seen .visits + 1;
   race = cond (racing && eqb (seen .race) 0) at (seen .race);
   omitted = seen .omitted || omits;
   dropped = cond drops (seen .dropped + 1) (seen .dropped);
-  stray = seen .stray || stray;
   last = cond drops (seen .last) at;
 }
 
+abbrev pub into : Weighed → ℕ → Seen → Seen
+into Stays at = weighed at false false false
+into Goes at = weighed at false true false
+into (Beside racing omits) at = weighed at racing false omits
+
 module _ (bs : List Bags) (e : Entry) where
   unfoldable pub weighedEntry : ℕ → Entry → Seen → Seen
-  weighedEntry at k = weighed at (inNoBag bs k) (races (parallelBy bs) e k) (dropped (parallelBy bs) e k) (omits (parallelBy bs) e k)
+  weighedEntry at k = weighed at (races (parallelBy bs) e k) (dropped (parallelBy bs) e k) (omits (parallelBy bs) e k)
 
   unfoldable pub seenOver : List ℕ → List ℕ → List ℕ → Seen → Seen
   seenOver procedures sets [] seen = seen
   seenOver procedures sets (s ∷ ss) seen = seenOver procedures sets ss (weighedEntry (suc s) (entryOf (getD procedures s 0) (getD sets s 0)) seen)
+
+  -- Some entry's procedure is in no bag; and what looking at the entries gives.
+  unfoldable pub someStray : List ℕ → List ℕ → List ℕ → Bool
+  someStray procedures sets ss = any (λ s. inNoBag bs (entryOf (getD procedures s 0) (getD sets s 0))) ss
+
+  unfoldable pub lookedOver : List ℕ → List ℕ → List ℕ → Looked
+  lookedOver procedures sets ss = cond (someStray procedures sets ss) Stray (All (seenOver procedures sets ss nothingSeen))
 
 -- The entry would find no slot.
 abbrev pub isFull : Seen → Slots → Bool

@@ -4,14 +4,16 @@
 // `empty_lists` sets up the lists, `access` brings one access in, and `clear` leaves the pieces zero.
 ghost use mathlib.Core.Path.{_≡_};
 ghost use mathlib.Core.Bool.{false, cond};
-ghost use Prim.Native.Nat.{_≤_, _<_, _+_};
+ghost use Prim.Native.Nat.{ℕ, _≤_, _<_, _+_, _-_};
+ghost use mathlib.Core.List.{[], _∷_};
 ghost use lib.ListN.{length, set};
 ghost use Rattle.bags.specs.Runs.{bagsIn, Room as BagsRoom};
 ghost use Rattle.bags.specs.Ask.{saysParallel};
+ghost use Rattle.kept.specs.declared.Seen.{Seen};
 ghost use Rattle.kept.specs.Rules.{dropped};
 ghost use Rattle.kept.specs.Pieces.{pieceSize, pieces, slotsOf, slotsFreed, listsIn, LaidOut, Fits, Room, noneUsed, cleared};
 ghost use Rattle.kept.specs.Access.{parallelBy, codeOf, accessCode, accessed, slotsAfter, Accepted, AfterAccess};
-ghost use Rattle.kept.specs.Parts.{entryOf, saysNoBag, nothingSeen, weighed, weighedEntry, seenOver, isFull, Walkable, namedAt};
+ghost use Rattle.kept.specs.Parts.{entryOf, nothingSeen, into, weighedEntry, seenOver, lookedOver, isFull, Walkable, namedAt};
 ghost use Rattle.kept.specs.Parts.{headsLinked, linksLinked, dropsBy, howMany, Pruned, slotFor, slotsThen};
 use bags::ask::Answer;
 use bags::ask::Pairs;
@@ -33,7 +35,7 @@ pub struct Entry {
 // Which slots hold no entry: `freed` links those whose entry was dropped, and from `used` on they never held one.
 pub struct Slots {
     pub freed: u32,
-    pub used: u32,
+    pub used: usize,
 }
 
 // The kept entry that is named: the one that an access races with.
@@ -50,32 +52,72 @@ pub enum Accessed {
 }
 
 // What the visits to a list have found so far: how many there were, the first entry that races, whether some entry leaves the access
-// out, how many are to be dropped, whether some entry's procedure is in no bag, and the last entry that stays. An entry is named by
-// the link to its slot, 0 for none.
+// out, how many are to be dropped, and the last entry that stays. An entry is named by the link to its slot, 0 for none.
 struct Seen {
     visits: u32,
-    race: u32,
+    race: usize,
     omitted: bool,
     dropped: u32,
-    stray: bool,
-    last: u32,
+    last: usize,
+}
+
+// What the visits to a whole list found, or that the procedure of some entry is in no bag.
+enum Looked {
+    All(Seen),
+    Stray,
+}
+
+// What becomes of an entry that is visited: it stays; it is dropped; or it is parallel with the access, and so stays, and may race with
+// it, and may leave it out.
+enum Weighed {
+    Stays,
+    Goes,
+    Beside(bool, bool),
 }
 
 impl Seen {
-    // One entry more is visited.
-    fn with(self, at: u32, stray: bool, races: bool, drops: bool, omits: bool) -> Seen
+    // Nothing is visited yet.
+    fn nothing() -> Seen
+        ensures { λ r. ⌜ r ≡ nothingSeen ⌝ }
+    {
+        Seen {
+            visits: 0,
+            race: 0,
+            omitted: false,
+            dropped: 0,
+            last: 0,
+        }
+    }
+
+    // One entry more is visited, and this becomes of it.
+    fn and(self, at: usize, entry: Weighed) -> Seen
         requires { ⌜ self .visits < pieceSize ⌝ }
         requires { ⌜ self .dropped ≤ self .visits ⌝ }
-        ensures { λ r. ⌜ r ≡ weighed at stray races drops omits self ⌝ }
+        ensures { λ r. ⌜ r ≡ into entry at self ⌝ }
     {
         let visits = self.visits + 1;
-        Seen {
-            visits: visits,
-            race: pick(races & (self.race == 0), at, self.race),
-            omitted: self.omitted | omits,
-            dropped: pick(drops, self.dropped + 1, self.dropped),
-            stray: self.stray | stray,
-            last: pick(drops, self.last, at),
+        match entry {
+            Weighed::Stays => Seen {
+                visits: visits,
+                race: self.race,
+                omitted: self.omitted,
+                dropped: self.dropped,
+                last: at,
+            },
+            Weighed::Goes => Seen {
+                visits: visits,
+                race: self.race,
+                omitted: self.omitted,
+                dropped: self.dropped + 1,
+                last: self.last,
+            },
+            Weighed::Beside(races, omits) => Seen {
+                visits: visits,
+                race: pick(races & (self.race == 0), at, self.race),
+                omitted: self.omitted | omits,
+                dropped: self.dropped,
+                last: at,
+            },
         }
     }
 
@@ -83,15 +125,22 @@ impl Seen {
     fn is_full(self, slots: Slots) -> bool
         ensures { λ r. ⌜ r ≡ isFull self slots ⌝ }
     {
-        !self.omitted & (self.dropped == 0) & (slots.freed == 0) & (slots.used as usize == PIECE)
+        !self.omitted & (self.dropped == 0) & (slots.freed == 0) & (slots.used == PIECE)
     }
 }
 
 // The first number if so, else the second.
-fn pick(so: bool, first: u32, second: u32) -> u32
+fn pick(so: bool, first: usize, second: usize) -> usize
     ensures { λ r. ⌜ r ≡ cond so first second ⌝ }
 {
     if so { first } else { second }
+}
+
+// A link, in the width of a place.
+fn wide(link: u32) -> usize
+    ensures { λ r. ⌜ r ≡ link ⌝ }
+{
+    link as usize
 }
 
 // There are 4,096 empty lists. What the pieces held before does not matter.
@@ -181,7 +230,26 @@ pub fn access(
         (pieces (now (heads .exit)) (now (links .exit)) (now (events .exit)) (now (procedures .exit)) (now (sets .exit))) r ⌝ }
 {
     let list = location as usize;
-    let seen = look(
+    let first = wide(heads[list]);
+    if first != 0 {
+        if links[first - 1] == 0 {
+            return meet_one(
+                heads,
+                links,
+                events,
+                procedures,
+                sets,
+                slots,
+                list,
+                first,
+                entry,
+                pairs,
+                starts,
+                joins,
+            );
+        }
+    }
+    match look(
         heads,
         links,
         procedures,
@@ -191,30 +259,108 @@ pub fn access(
         pairs,
         starts,
         joins,
-    );
-    let full = seen.is_full(slots);
-    if seen.stray {
+    ) {
+        Looked::Stray => Accessed::InNoBag,
+        Looked::All(seen) => {
+            if seen.is_full(slots) {
+                return Accessed::Full;
+            }
+            let race = named_at(seen.race, events, procedures, sets);
+            let then = change(
+                heads,
+                links,
+                events,
+                procedures,
+                sets,
+                slots,
+                list,
+                entry,
+                seen,
+                pairs,
+                starts,
+                joins,
+            );
+            Accessed::Done(then, seen.visits, race)
+        }
+    }
+}
+
+// The same where the list has one entry: if it is dropped, the new one takes its slot. Most lists are as short as that.
+fn meet_one(
+    heads: &mut [u32],
+    links: &mut [u32],
+    events: &mut [u32],
+    procedures: &mut [u32],
+    sets: &mut [u64],
+    slots: Slots,
+    location: usize,
+    first: usize,
+    entry: Entry,
+    pairs: Pairs,
+    starts: &[u32],
+    joins: &[u32],
+) -> Accessed
+    requires { ⌜ BagsRoom (now starts) (now joins) pairs ⌝ }
+    requires { ⌜ Room (pieces (now heads) (now links) (now events) (now procedures) (now sets)) slots ⌝ }
+    requires { ⌜ location < pieceSize ⌝ }
+    requires { ⌜ 0 < first ⌝ }
+    requires { ⌜ slotsOf (now heads) (now links) location ≡ (first - 1) ∷ [] ⌝ }
+    ensures result { λ r.
+        ⌜ r ≡ accessed (bagsIn (now (starts .entry)) (now (joins .entry)) pairs) location entry
+        (listsIn (pieces (now (heads .entry)) (now (links .entry)) (now (events .entry)) (now (procedures .entry)) (now (sets .entry))))
+        (slotsAfter (bagsIn (now (starts .entry)) (now (joins .entry)) pairs) location entry
+        (pieces (now (heads .entry)) (now (links .entry)) (now (events .entry)) (now (procedures .entry)) (now (sets .entry))) slots) ⌝ }
+    ensures pieces { λ r.
+        ⌜ AfterAccess (bagsIn (now (starts .entry)) (now (joins .entry)) pairs) location entry
+        (pieces (now (heads .entry)) (now (links .entry)) (now (events .entry)) (now (procedures .entry)) (now (sets .entry))) slots
+        (pieces (now (heads .exit)) (now (links .exit)) (now (events .exit)) (now (procedures .exit)) (now (sets .exit))) r ⌝ }
+{
+    let slot = first - 1;
+    let procedure = ProcedureNumber(procedures[slot]);
+    if !pairs.in_some_bag(procedure) {
         return Accessed::InNoBag;
     }
-    if full {
-        return Accessed::Full;
+    let weighed = weigh(procedure, sets[slot], entry, pairs, starts, joins);
+    let none = Seen::nothing();
+    let seen = none.and(first, weighed);
+    if seen.dropped != 0 {
+        store(events, procedures, sets, slot, entry);
+        return Accessed::Done(slots, seen.visits, Named::Nobody);
     }
     let race = named_at(seen.race, events, procedures, sets);
-    let then = change(
+    if seen.omitted {
+        return Accessed::Done(slots, seen.visits, race);
+    }
+    if seen.is_full(slots) {
+        return Accessed::Full;
+    }
+    let then = append(
         heads,
         links,
         events,
         procedures,
         sets,
-        slots,
-        list,
+        location,
+        seen.last,
         entry,
-        seen,
-        pairs,
-        starts,
-        joins,
+        slots,
     );
     Accessed::Done(then, seen.visits, race)
+}
+
+// The entry is put in a slot.
+fn store(events: &mut [u32], procedures: &mut [u32], sets: &mut [u64], slot: usize, entry: Entry)
+    requires { ⌜ slot < pieceSize ⌝ }
+    requires { ⌜ pieceSize ≤ length (now events) ⌝ }
+    requires { ⌜ pieceSize ≤ length (now procedures) ⌝ }
+    requires { ⌜ pieceSize ≤ length (now sets) ⌝ }
+    ensures events { λ _. ⌜ now (events .exit) ≡ set (now (events .entry)) slot (entry .event .0) ⌝ }
+    ensures procedures { λ _. ⌜ now (procedures .exit) ≡ set (now (procedures .entry)) slot (entry .procedure .0) ⌝ }
+    ensures sets { λ _. ⌜ now (sets .exit) ≡ set (now (sets .entry)) slot (entry .locks) ⌝ }
+{
+    events[slot] = entry.event.0;
+    procedures[slot] = entry.procedure.0;
+    sets[slot] = entry.locks;
 }
 
 // The dropped go, and the entry comes unless it is left out. Gives which slots hold no entry then.
@@ -275,41 +421,37 @@ fn change(
     )
 }
 
-// The entry of that procedure, with those locks, is visited. The bags are asked only where the answer matters.
+// What becomes of the entry of that procedure, with those locks. The bags are asked only where the answer matters.
 fn weigh(
-    seen: Seen,
-    at: u32,
     procedure: ProcedureNumber,
     locks: u64,
     entry: Entry,
     pairs: Pairs,
     starts: &[u32],
     joins: &[u32],
-) -> Seen
+) -> Weighed
     requires { ⌜ BagsRoom (now starts) (now joins) pairs ⌝ }
-    requires { ⌜ seen .visits < pieceSize ⌝ }
-    requires { ⌜ seen .dropped ≤ seen .visits ⌝ }
-    ensures { λ r. ⌜ r ≡ weighedEntry (bagsIn (now (starts .entry)) (now (joins .entry)) pairs) entry at (entryOf (procedure .0) locks) seen ⌝ }
+    ensures { λ r.
+        ⌜ ((at : ℕ) (seen : Seen)
+        → into r at seen ≡ weighedEntry (bagsIn (now (starts .entry)) (now (joins .entry)) pairs) entry at (entryOf (procedure .0) locks) seen) ⌝ }
 {
     let ours = entry.locks;
     let nothing_in_common = apart(locks, ours);
     let lies_within = within(locks, ours);
     let contains = within(ours, locks);
     if !(nothing_in_common | lies_within | contains) {
-        return seen.with(at, !pairs.in_some_bag(procedure), false, false, false);
+        return Weighed::Stays;
     }
-    let answer = pairs.ask(starts, joins, procedure);
-    let parallel = says_parallel(answer);
-    seen.with(
-        at,
-        says_no_bag(answer),
-        parallel & nothing_in_common,
-        !parallel & contains,
-        parallel & lies_within,
-    )
+    if says_parallel(pairs.ask(starts, joins, procedure)) {
+        return Weighed::Beside(nothing_in_common, lies_within);
+    }
+    if contains {
+        return Weighed::Goes;
+    }
+    Weighed::Stays
 }
 
-// What an answer says: in parallel, or else in series; and in no bag.
+// Does the answer say: in parallel?
 fn says_parallel(answer: Answer) -> bool
     ensures { λ r. ⌜ r ≡ saysParallel answer ⌝ }
 {
@@ -320,17 +462,7 @@ fn says_parallel(answer: Answer) -> bool
     }
 }
 
-fn says_no_bag(answer: Answer) -> bool
-    ensures { λ r. ⌜ r ≡ saysNoBag answer ⌝ }
-{
-    match answer {
-        Answer::InSeries => false,
-        Answer::InParallel => false,
-        Answer::InNoBag => true,
-    }
-}
-
-// Every entry of a location's list is visited; nothing changes.
+// Every entry of a location's list is visited, unless one is found whose procedure is in no bag; nothing changes.
 fn look(
     heads: &[u32],
     links: &[u32],
@@ -341,43 +473,32 @@ fn look(
     pairs: Pairs,
     starts: &[u32],
     joins: &[u32],
-) -> Seen
+) -> Looked
     requires { ⌜ BagsRoom (now starts) (now joins) pairs ⌝ }
     requires { ⌜ Walkable (now heads) (now links) location ⌝ }
     requires { ⌜ pieceSize ≤ length (now procedures) ⌝ }
     requires { ⌜ pieceSize ≤ length (now sets) ⌝ }
     ensures { λ r.
-        ⌜ r ≡ seenOver (bagsIn (now (starts .entry)) (now (joins .entry)) pairs) entry (now (procedures .entry)) (now (sets .entry))
-        (slotsOf (now (heads .entry)) (now (links .entry)) location) nothingSeen ⌝ }
+        ⌜ r ≡ lookedOver (bagsIn (now (starts .entry)) (now (joins .entry)) pairs) entry (now (procedures .entry)) (now (sets .entry))
+        (slotsOf (now (heads .entry)) (now (links .entry)) location) ⌝ }
 {
-    let mut seen = Seen {
-        visits: 0,
-        race: 0,
-        omitted: false,
-        dropped: 0,
-        stray: false,
-        last: 0,
-    };
-    let mut at = heads[location];
+    let mut seen = Seen::nothing();
+    let mut at = wide(heads[location]);
     while at != 0 {
-        let slot = (at - 1) as usize;
-        seen = weigh(
-            seen,
-            at,
-            ProcedureNumber(procedures[slot]),
-            sets[slot],
-            entry,
-            pairs,
-            starts,
-            joins,
-        );
-        at = links[slot];
+        let slot = at - 1;
+        let procedure = ProcedureNumber(procedures[slot]);
+        if !pairs.in_some_bag(procedure) {
+            return Looked::Stray;
+        }
+        let weighed = weigh(procedure, sets[slot], entry, pairs, starts, joins);
+        seen = seen.and(at, weighed);
+        at = wide(links[slot]);
     }
-    seen
+    Looked::All(seen)
 }
 
 // The entry that a link leads to.
-fn named_at(at: u32, events: &[u32], procedures: &[u32], sets: &[u64]) -> Named
+fn named_at(at: usize, events: &[u32], procedures: &[u32], sets: &[u64]) -> Named
     requires { ⌜ at ≤ length (now events) ⌝ }
     requires { ⌜ at ≤ length (now procedures) ⌝ }
     requires { ⌜ at ≤ length (now sets) ⌝ }
@@ -386,7 +507,7 @@ fn named_at(at: u32, events: &[u32], procedures: &[u32], sets: &[u64]) -> Named
     if at == 0 {
         return Named::Nobody;
     }
-    let slot = (at - 1) as usize;
+    let slot = at - 1;
     Named::With(Entry {
         event: EventNumber(events[slot]),
         procedure: ProcedureNumber(procedures[slot]),
@@ -395,7 +516,7 @@ fn named_at(at: u32, events: &[u32], procedures: &[u32], sets: &[u64]) -> Named
 }
 
 // What comes after the entry that `last` names, or first in the location's list where it names none, is now what `to` leads to.
-fn relink(heads: &mut [u32], links: &mut [u32], location: usize, last: u32, to: u32)
+fn relink(heads: &mut [u32], links: &mut [u32], location: usize, last: usize, to: u32)
     requires { ⌜ location < length (now heads) ⌝ }
     requires { ⌜ last ≤ length (now links) ⌝ }
     ensures heads { λ _. ⌜ now (heads .exit) ≡ headsLinked last location to (now (heads .entry)) ⌝ }
@@ -404,7 +525,7 @@ fn relink(heads: &mut [u32], links: &mut [u32], location: usize, last: u32, to: 
     if last == 0 {
         heads[location] = to;
     } else {
-        links[(last - 1) as usize] = to;
+        links[last - 1] = to;
     }
 }
 
@@ -459,7 +580,7 @@ fn prune(
     let mut at = heads[location];
     let mut left = count;
     while left != 0 {
-        let slot = (at - 1) as usize;
+        let slot = at as usize - 1;
         let next = links[slot];
         if drops(
             ProcedureNumber(procedures[slot]),
@@ -474,7 +595,7 @@ fn prune(
             freed = at;
             left -= 1;
         } else {
-            last = at;
+            last = at as usize;
         }
         at = next;
     }
@@ -485,13 +606,13 @@ fn prune(
 }
 
 // The slot for the next entry is the one freed last, or else the first never used.
-fn slot_for(slots: Slots) -> u32
+fn slot_for(slots: Slots) -> usize
     ensures { λ r. ⌜ r ≡ slotFor slots ⌝ }
 {
     if slots.freed == 0 {
         slots.used
     } else {
-        slots.freed - 1
+        slots.freed as usize - 1
     }
 }
 
@@ -508,7 +629,7 @@ fn slots_then(links: &[u32], slots: Slots) -> Slots
         };
     }
     Slots {
-        freed: links[(slots.freed - 1) as usize],
+        freed: links[slots.freed as usize - 1],
         used: slots.used,
     }
 }
@@ -521,7 +642,7 @@ fn append(
     procedures: &mut [u32],
     sets: &mut [u64],
     location: usize,
-    last: u32,
+    last: usize,
     entry: Entry,
     slots: Slots,
 ) -> Slots
@@ -541,13 +662,10 @@ fn append(
     ensures procedures { λ _. ⌜ now (procedures .exit) ≡ set (now (procedures .entry)) (slotFor slots) (entry .procedure .0) ⌝ }
     ensures sets { λ _. ⌜ now (sets .exit) ≡ set (now (sets .entry)) (slotFor slots) (entry .locks) ⌝ }
 {
-    let number = slot_for(slots);
+    let slot = slot_for(slots);
     let then = slots_then(links, slots);
-    let slot = number as usize;
     links[slot] = 0;
-    events[slot] = entry.event.0;
-    procedures[slot] = entry.procedure.0;
-    sets[slot] = entry.locks;
-    relink(heads, links, location, last, number + 1);
+    store(events, procedures, sets, slot, entry);
+    relink(heads, links, location, last, slot as u32 + 1);
     then
 }

@@ -138,8 +138,19 @@ impl Event {
         requires { ⌜ column < 4 ⌝ }
         ensures { λ r. ⌜ r ≡ entry self column ⌝ }
     {
-        let row = self.kind as usize;
-        if row < 8 { KINDS[row][column] } else { 0 }
+        let kind = self.kind;
+        // Row by row: the row that is wanted is then a constant, and nothing of the table is built at run time.
+        match kind {
+            0 => KINDS[0][column],
+            1 => KINDS[1][column],
+            2 => KINDS[2][column],
+            3 => KINDS[3][column],
+            4 => KINDS[4][column],
+            5 => KINDS[5][column],
+            6 => KINDS[6][column],
+            7 => KINDS[7][column],
+            _ => 0,
+        }
     }
 
     // Does the table say yes there?

@@ -42,15 +42,20 @@ pub struct Examination {
 }
 
 pub fn call(trace: &[u8]) -> Outcome {
-    examine(trace).outcome
+    go_through(trace, false).outcome
 }
 
 pub fn examine(trace: &[u8]) -> Examination {
+    go_through(trace, true)
+}
+
+/// The accesses are many in a long trace, and kept only for those who ask.
+fn go_through(trace: &[u8], keeps_accesses: bool) -> Examination {
     // "1 and 2 before anything is read, and then nothing at all is touched and
     // the other numbers are 0."
     let too_long = trace.len() > MOST_BYTES;
     let serial = follow(if too_long { &[] } else { trace });
-    let mut walk = Walk::at_the_start(Parallel::of(&serial.steps));
+    let mut walk = Walk::at_the_start(Parallel::of(&serial.steps), keeps_accesses);
     let mut refused = None;
     for step in &serial.steps {
         // "Codes 3 to 13 refuse one event. That event changes no count, reports
@@ -72,10 +77,11 @@ struct Walk {
     bags: Bags,
     kept: Kept,
     found: Examination,
+    keeps_accesses: bool,
 }
 
 impl Walk {
-    fn at_the_start(parallel: Parallel) -> Walk {
+    fn at_the_start(parallel: Parallel, keeps_accesses: bool) -> Walk {
         let found = Examination {
             outcome: Outcome::default(),
             accesses: Vec::new(),
@@ -87,6 +93,7 @@ impl Walk {
             bags: Bags::at_the_start(),
             kept: Kept::empty(),
             found,
+            keeps_accesses,
         }
     }
 
@@ -132,7 +139,9 @@ impl Walk {
             found.outcome.entries.push(entry);
         }
         found.outcome.visits += visit.visits;
-        found.accesses.push((*access, visit));
+        if self.keeps_accesses {
+            found.accesses.push((*access, visit));
+        }
         Ok(())
     }
 

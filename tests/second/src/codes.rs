@@ -4,6 +4,8 @@ pub type Code = u32;
 
 /// "every byte accepted and main has returned"
 pub const ACCEPTED: Code = 0;
+/// "a piece of working room is too short"
+pub const ROOM_TOO_SHORT: Code = 1;
 /// "the trace is longer than 16,777,216 bytes"
 pub const TRACE_TOO_LONG: Code = 2;
 /// "the bytes end inside a number of fewer than three bytes"

@@ -19,6 +19,7 @@ pub mod parallel;
 pub mod print;
 pub mod random;
 pub mod reading;
+pub mod room;
 pub mod serial;
 pub mod tally;
 pub mod vectors;

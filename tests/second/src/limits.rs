@@ -21,6 +21,11 @@ pub const MOST_ENTRIES: usize = 4_096;
 /// "The working room starts with 4,096 empty lists."
 pub const LISTS: usize = 4_096;
 
+/// "Working room: the team fixes its sizes in docs/": seven pieces, each of so
+/// many numbers.
+pub const PIECES: usize = 7;
+pub const PIECE: usize = 4_096;
+
 /// "locks 0 to 62, and the read mark": the mark takes the one bit left over.
 pub const READ_MARK_BIT: u32 = 63;
 

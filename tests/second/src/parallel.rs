@@ -6,17 +6,24 @@ use crate::numbers::{EventNumber, ProcedureNumber, MAIN};
 use crate::serial::Step;
 
 /// A spawn s made by procedure G, with its matching return r.
-#[derive(Clone, Copy)]
 struct Spawn {
-    event: EventNumber,
     maker: ProcedureNumber,
-    matching_return: Option<EventNumber>,
+    matching_return: Option<Return>,
+}
+
+/// A return r, and how many syncs G itself has made before it.
+#[derive(Clone, Copy)]
+struct Return {
+    event: EventNumber,
+    own_ends_before: usize,
 }
 
 /// What the search looks things up in.
 pub struct Parallel {
     /// The spawns, in order; the one that starts procedure p is number p - 1.
     spawns: Vec<Spawn>,
+    /// How many spawns come before each event.
+    spawns_before: Vec<usize>,
     /// Each procedure's own syncs and its own return, in order.
     own_ends: Vec<Vec<EventNumber>>,
 }
@@ -25,14 +32,14 @@ impl Parallel {
     pub fn of(steps: &[Step]) -> Parallel {
         let mut known = Parallel {
             spawns: Vec::new(),
+            spawns_before: Vec::new(),
             own_ends: vec![Vec::new()],
         };
         for step in steps {
+            known.spawns_before.push(known.spawns.len());
             if step.begins.is_some() {
-                let (event, maker) = (step.event, step.maker);
                 known.spawns.push(Spawn {
-                    event,
-                    maker,
+                    maker: step.maker,
                     matching_return: None,
                 });
                 known.own_ends.push(Vec::new());
@@ -41,7 +48,11 @@ impl Parallel {
                 known.own_ends[step.maker.0].push(step.event);
             }
             if step.kind == RETURN && step.maker != MAIN {
-                known.spawns[step.maker.0 - 1].matching_return = Some(step.event);
+                let spawn = &mut known.spawns[step.maker.0 - 1];
+                spawn.matching_return = Some(Return {
+                    event: step.event,
+                    own_ends_before: known.own_ends[spawn.maker.0].len(),
+                });
             }
         }
         known
@@ -52,22 +63,29 @@ impl Parallel {
     /// neither a sync made by G itself nor G's own return lies between r and
     /// j. Otherwise i precedes j."
     ///
-    /// Spawns stand in the order of their events, so those before i come first.
+    /// With s < i < r the body that s starts is open at i. So it is the body
+    /// started last before i, or one of those around it: every other has
+    /// returned by then.
     pub fn parallel(&self, i: EventNumber, j: EventNumber) -> bool {
         assert!(i < j, "the definition speaks of i before j");
-        let before = self.spawns.partition_point(|spawn| spawn.event < i);
-        self.spawns[..before].iter().any(|spawn| {
-            spawn
-                .matching_return
-                .is_some_and(|r| i < r && r < j && !self.ends_between(spawn.maker, r, j))
+        let started_last = self.spawns[..self.spawns_before[i.0]].last();
+        let mut open = std::iter::successors(started_last, |spawn| self.spawn_of(spawn.maker));
+        open.any(|spawn| {
+            spawn.matching_return.is_some_and(|r| {
+                i < r.event && r.event < j && !self.ends_between(spawn.maker, r, j)
+            })
         })
     }
 
+    /// The spawn that started a procedure: none for main.
+    fn spawn_of(&self, procedure: ProcedureNumber) -> Option<&Spawn> {
+        self.spawns.get(procedure.0.checked_sub(1)?)
+    }
+
     /// Whether a sync made by `procedure` itself or its own return lies between.
-    fn ends_between(&self, procedure: ProcedureNumber, r: EventNumber, j: EventNumber) -> bool {
-        let own = &self.own_ends[procedure.0];
-        let first_after = own.partition_point(|end| *end <= r);
-        own.get(first_after).is_some_and(|end| *end < j)
+    fn ends_between(&self, procedure: ProcedureNumber, r: Return, j: EventNumber) -> bool {
+        let first_after = self.own_ends[procedure.0].get(r.own_ends_before);
+        first_after.is_some_and(|end| *end < j)
     }
 }
 

@@ -27,33 +27,29 @@ pub struct Event {
 /// first, one group to a byte. The top bit is set when another group follows.
 /// The shortest form is the only one. A number has at most three groups."
 pub fn read_number(bytes: &[u8]) -> Result<Number, Code> {
-    let mut groups: Vec<u8> = Vec::new();
-    loop {
+    let mut value = 0;
+    for place in 0..MOST_GROUPS {
         // "the bytes end inside a number of fewer than three bytes"
-        let Some(&byte) = bytes.get(groups.len()) else {
+        let Some(&byte) = bytes.get(place) else {
             return Err(ENDS_INSIDE_NUMBER);
         };
-        groups.push(byte & !TOP_BIT);
+        let group = u32::from(byte & !TOP_BIT);
+        value |= group << (BITS_OF_A_GROUP * place as u32);
         let another_follows = byte & TOP_BIT != 0;
-        if !another_follows {
-            break;
+        if another_follows {
+            continue;
         }
-        // "a third byte has its top bit set": no fourth byte is looked for.
-        if groups.len() == MOST_GROUPS {
+        // "or the last of several groups is zero": a lone zero group is the number 0.
+        if place > 0 && group == 0 {
             return Err(WRONG_FORM);
         }
+        return Ok(Number {
+            value,
+            bytes: place + 1,
+        });
     }
-    // "or the last of several groups is zero": a lone zero group is the number 0.
-    if groups.len() > 1 && groups.last() == Some(&0) {
-        return Err(WRONG_FORM);
-    }
-    let value = groups.iter().rev().fold(0, |higher, &group| {
-        (higher << BITS_OF_A_GROUP) | u32::from(group)
-    });
-    Ok(Number {
-        value,
-        bytes: groups.len(),
-    })
+    // "a third byte has its top bit set": no fourth byte is looked for.
+    Err(WRONG_FORM)
 }
 
 /// Reads the event at the front of `bytes`, which is not empty.

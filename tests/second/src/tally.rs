@@ -17,12 +17,15 @@ impl Tally {
         *self.codes.entry(code).or_default() += 1;
     }
 
+    /// The first of these codes that never came up.
+    pub fn first_missing(&self, codes: &[Code]) -> Option<Code> {
+        let came_up = |code: &Code| self.codes.contains_key(code);
+        codes.iter().copied().find(|code| !came_up(code))
+    }
+
     /// So that a family cannot be lost in silence.
     pub fn every_code_came_up(&self, generated: u64) -> Result<(), String> {
-        let missing = FROM_BYTES
-            .iter()
-            .find(|code| !self.codes.contains_key(code));
-        match missing {
+        match self.first_missing(&FROM_BYTES) {
             Some(code) if generated >= ENOUGH_FOR_EVERY_CODE => Err(format!(
                 "no trace gave code {code}, though {generated} were generated"
             )),

@@ -34,6 +34,9 @@ add-t7 c = omega (arith, left c)
 add-t9 : tie.Need-add-t9
 add-t9 c = search needs
 
+add-t11 : tie.Need-add-t11
+add-t11 c = search needs
+
 same-length : tie.Need-same-length
 same-length c = search needs
 
@@ -55,6 +58,7 @@ spawn-spec =
     slice-write-joins
     add-t7
     add-t9
+    add-t11
     same-length
     same-length-2
     returns-2)

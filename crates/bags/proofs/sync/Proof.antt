@@ -18,7 +18,7 @@ same-length : tie.Need-same-length
 same-length c = search needs
 
 returns : tie.Need-returns
-returns c = (refl, λ starts room. syncs starts _ _ room)
+returns c = (refl, (refl, λ starts room. syncs starts _ _ room))
 
 pub sync-spec : {M : Type 1} → statement M
 sync-spec = tie.close (tie.spec sub-at mul-joins slice-write-joins same-length returns)

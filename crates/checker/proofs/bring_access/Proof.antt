@@ -37,7 +37,7 @@ ours : (c : tie.After-set-of-access)
     → entryOf (events trace) (given .state .counts .events)
     ≡ record { event = record { 0 = given .state .counts .events }; procedure = c .before .before .running .result; locks = c .set-of-access .result }
 ours c trace n =
-    entry-told trace (start c .args .report .now) (lent c) _ _ _ _ _ n _ _ (c .before .before .running .ensures .1 _)
+    entry-told trace (start c .args .report .now) (lent c) _ _ _ _ _ n _ _ (c .before .before .running .ensures .1 _ _ (safe c .bags-room))
     (c .set-of-access .ensures ∙ ap (λ (reads : Bool). setOfAccess reads (start c .args .state .held .bits)) (c .before .is-read .ensures))
 
 location-requires : tie.Need-location-requires
@@ -63,12 +63,12 @@ enum-known-then c = search needs
 note-requires : tie.Need-note-requires
 note-requires c κs =
     let here = made (called (c .before .before .before .before)) in
-    omega (arith, safe here .races-small, safe here .events-small)
+    omega (arith, safe here .races-small, safe here .counts-small .events-small)
 
 after-requires : tie.Need-after-requires
 after-requires c κs =
     let here = made (called (c .before .before .before .before .before .before .before)) in
-    (safe here .events-small, safe here .visits-small)
+    safe here .counts-small
 
 enum-told : tie.Need-enum-told
 enum-told c = search needs
@@ -86,7 +86,7 @@ same-length-3 : tie.Need-same-length-3
 same-length-3 c = called (c .before .before .before .before .before .before .before .before) .access .kept .1 .0
 
 same-length-4 : tie.Need-same-length-4
-same-length-4 c = search needs
+same-length-4 c = called (c .before .before .before .before .before .before .before .before) .access .kept .1 .1 .0
 
 same-length-5 : tie.Need-same-length-5
 same-length-5 c = search needs

@@ -1,49 +1,49 @@
 -- `step` reads an event and tests it; `bring_access` and `bring_other` bring it in. Assumes nothing.
 use Prim.Native.Nat.{ℕ}
-use mathlib.Core.Path.{_≡_, sym, ap, _∙_}
+use mathlib.Core.Path.{_≡_, sym, _∙_}
 use borrow.Author.Needs.{needs}
-use lib.Dec.{ltb}
+use borrow.Author.Tests.{not-true, not-false}
 use Rattle.trace.specs.declared.Event.{Event}
 use Rattle.trace.specs.declared.Reading.the-variants.{Found}
 use Rattle.trace.specs.Events.{readingAt}
 use Rattle.kept.specs.Pieces.{Pieces, pieces}
-use Rattle.checker.specs.Steps.{refusal, ComesNext, Safe}
-use Rattle.checker.proofs.Stepping.{is-safe, is-located, reading-refused, code-refused}
+use Rattle.checker.specs.Steps.{ComesNext, Safe}
+use Rattle.checker.proofs.Stepping.{is-safe, is-located, reading-refused, refused-after-main}
 use Rattle.checker.proofs.step.Statement.{statement}
 use Rattle.checker.proofs.step.Tie as tie
 
 -- What was given, and the pieces of the lists as they were lent.
 abbrev start : tie.After-read-event → tie.Start
-start c = c .before .before .before .before .before .before .before .before .before .before .before .before
+start c = c .before .before .before .before .before .before .before .before .before .before .before
 
 abbrev lent : tie.After-read-event → Pieces
 lent c = let given = start c .args in pieces (given .heads .now) (given .links .now) (given .events .now) (given .procedures .now) (given .sets .now)
 
--- An event was read, and tested.
-abbrev reader : tie.After-refusal → tie.After-read-event
-reader c = c .before .before .before .before .before
+-- An event was read.
+abbrev reader : tie.After-main-is-open → tie.After-read-event
+reader c = c .before .before .before .before
 
-abbrev event : tie.After-refusal → Event
-event c = c .before .before .before .event .given .0 .0
+abbrev event : tie.After-main-is-open → Event
+event c = c .before .before .event .given .0 .0
 
-abbrev next : tie.After-refusal → ℕ
-next c = c .before .before .before .event .given .0 .1 .0
+abbrev next : tie.After-main-is-open → ℕ
+next c = c .before .before .event .given .0 .1 .0
 
-read : (c : tie.After-refusal) → let given = start (reader c) .args in readingAt (given .trace .now) (given .state .at) ≡ Found (event c) (next c)
-read c = sym (reader c .read-event .ensures) ∙ c .before .before .before .event .given .1
+read : (c : tie.After-main-is-open) → let given = start (reader c) .args in readingAt (given .trace .now) (given .state .at) ≡ Found (event c) (next c)
+read c = sym (reader c .read-event .ensures) ∙ c .before .before .event .given .1
 
-tested : (c : tie.After-refusal)
-    → let given = start (reader c) .args in
-    c .refusal .result ≡ refusal (event c) (given .state .held .bits) (ltb 0 (given .state .pairs .count))
-tested c = c .refusal .ensures ∙ ap (refusal (event c) (start (reader c) .args .state .held .bits)) (c .before .main-is-open .ensures)
-
--- It is let pass.
+-- Main runs.
 comes : (c : tie.Else1)
     → let given = start (reader (c .before)) .args in
     ComesNext (given .trace .now) (given .state) (lent (reader (c .before))) (given .starts .now) (given .joins .now) (event (c .before)) (next (c .before))
 comes c =
     let given = start (reader (c .before)) in
-    record { stands = given .pre .0; bytes-left = given .pre .1 .0; read = read (c .before); passes = sym (tested (c .before)) ∙ c .if1 .left }
+    record {
+      stands = given .pre .0;
+      bytes-left = given .pre .1 .0;
+      read = read (c .before);
+      main-runs = sym (c .before .main-is-open .ensures) ∙ not-false _ (c .if1 .left);
+    }
 
 safe : (c : tie.Else1)
     → let given = start (reader (c .before)) .args in Safe (given .state) (lent (reader (c .before))) (given .starts .now) (given .joins .now)
@@ -64,13 +64,11 @@ enum-known-event c = search needs
 main-is-open-requires : tie.Need-main-is-open-requires
 main-is-open-requires c κs = search needs
 
-refusal-requires : tie.Need-refusal-requires
-refusal-requires c κs = search needs
-
 returns : tie.Need-returns
 returns c =
     let given = start (reader (c .before)) in
-    code-refused _ _ _ _ _ _ _ (given .pre .0) (given .pre .1 .0) _ _ _ (read (c .before)) (tested (c .before)) (c .if1 .taken)
+    refused-after-main _ _ _ _ _ _ _ (given .pre .0) (given .pre .1 .0) _ _ (read (c .before))
+    (sym (c .before .main-is-open .ensures) ∙ not-true _ (c .if1 .taken))
 
 is-access-requires : tie.Need-is-access-requires
 is-access-requires c κs = search needs
@@ -116,7 +114,7 @@ bring-other-requires : tie.Need-bring-other-requires
 bring-other-requires c κs =
     let test = c .before .before in
     let passed = test .before .before in
-    (safe passed .bags-room, (safe passed .events-small, (safe passed .visits-small, sym (test .before .is-access .ensures) ∙ test .if2 .left)))
+    (safe passed .bags-room, (safe passed .counts-small, sym (test .before .is-access .ensures) ∙ test .if2 .left))
 
 returns-3 : tie.Need-returns-3
 returns-3 c =
@@ -145,7 +143,6 @@ step-spec =
     code-requires
     enum-known-event
     main-is-open-requires
-    refusal-requires
     returns
     is-access-requires
     bring-access-requires

@@ -1,6 +1,6 @@
 -- Link 0 names nobody, and any other the entry in its slot. Assumes nothing.
-use borrow.Author.Needs.{needs}
 use Rattle.kept.proofs.Linking.{race-named}
+use borrow.Author.Needs.{needs}
 use Rattle.kept.proofs.named_at.Statement.{statement}
 use Rattle.kept.proofs.named_at.Tie as tie
 
@@ -10,14 +10,11 @@ returns c = search needs
 sub-slot : tie.Need-sub-slot
 sub-slot c = search needs
 
-cast-slot : tie.Need-cast-slot
-cast-slot c = search needs
+mul-t7 : tie.Need-mul-t7
+mul-t7 c = search needs
 
-mul-t8 : tie.Need-mul-t8
-mul-t8 c = search needs
-
-shared-slice-read-t7 : tie.Need-shared-slice-read-t7
-shared-slice-read-t7 c = search needs
+shared-slice-read-t9 : tie.Need-shared-slice-read-t9
+shared-slice-read-t9 c = search needs
 
 mul-t11 : tie.Need-mul-t11
 mul-t11 c = search needs
@@ -40,9 +37,8 @@ named-at-spec =
     (tie.spec
     returns
     sub-slot
-    cast-slot
-    mul-t8
-    shared-slice-read-t7
+    mul-t7
+    shared-slice-read-t9
     mul-t11
     shared-slice-read-t13
     mul-t15

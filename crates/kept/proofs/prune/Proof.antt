@@ -99,11 +99,11 @@ mul-next c = omega (arith, inside c)
 slice-read-next : tie.Need-slice-read-next Inv-loop μ-loop
 slice-read-next c = omega (arith, inside (c .before), fits (c .before .before))
 
-mul-t23 : tie.Need-mul-t23 Inv-loop μ-loop
-mul-t23 c = omega (arith, inside (c .before))
+mul-t22 : tie.Need-mul-t22 Inv-loop μ-loop
+mul-t22 c = omega (arith, inside (c .before))
 
-shared-slice-read-t22 : tie.Need-shared-slice-read-t22 Inv-loop μ-loop
-shared-slice-read-t22 c = omega (arith, inside (c .before .before))
+shared-slice-read-t24 : tie.Need-shared-slice-read-t24 Inv-loop μ-loop
+shared-slice-read-t24 c = omega (arith, inside (c .before .before))
 
 mul-drops : tie.Need-mul-drops Inv-loop μ-loop
 mul-drops c = omega (arith, inside (c .before .before))
@@ -127,6 +127,9 @@ slice-write-links c = omega (arith, inside (turn-of-dropped c), fits (turn-of-dr
 
 sub-left : tie.Need-sub-left Inv-loop μ-loop
 sub-left c = omega (arith, turn-of-dropped c .loop-test .taken)
+
+cast-last : tie.Need-cast-last Inv-loop μ-loop
+cast-last c = omega (arith, inside (turn-of-staying c))
 
 loop-less : tie.Need-loop-less Inv-loop μ-loop
 loop-less c = prune-falls _ _ _ _ _ (asked (turn-of-dropped c .before) .0) _ _ _ _ _ _ _ _ _ _ _ _ (turn-of-dropped c .before .loop .inv) (dropped c)
@@ -158,12 +161,12 @@ prune-spec =
     mul-at
     slice-read-at
     loop-holds
-    sub-slot
     cast-slot
+    sub-slot
     mul-next
     slice-read-next
-    mul-t23
-    shared-slice-read-t22
+    mul-t22
+    shared-slice-read-t24
     mul-drops
     shared-slice-read-drops
     drops-requires
@@ -171,6 +174,7 @@ prune-spec =
     mul-links
     slice-write-links
     sub-left
+    cast-last
     loop-less
     loop-again
     loop-less-2

@@ -1,6 +1,6 @@
 -- Where there is no last entry the head is stored, and else the last entry's link. Assumes nothing.
-use borrow.Author.Needs.{needs}
 use Rattle.kept.proofs.Linking.{linked-first, linked-after}
+use borrow.Author.Needs.{needs}
 use Rattle.kept.proofs.relink.Statement.{statement}
 use Rattle.kept.proofs.relink.Tie as tie
 
@@ -12,9 +12,6 @@ slice-write-heads c = search needs
 
 sub-links : tie.Need-sub-links
 sub-links c = search needs
-
-cast-links : tie.Need-cast-links
-cast-links c = search needs
 
 mul-links : tie.Need-mul-links
 mul-links c = search needs
@@ -41,7 +38,6 @@ relink-spec =
     mul-heads
     slice-write-heads
     sub-links
-    cast-links
     mul-links
     slice-write-links
     same-length

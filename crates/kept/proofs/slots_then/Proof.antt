@@ -1,6 +1,6 @@
 -- The two cases of `slotsThen`. Assumes nothing.
-use borrow.Author.Needs.{needs}
 use borrow.Author.Tests.{eq-eqb, ne-eqb}
+use borrow.Author.Needs.{needs}
 use Rattle.kept.proofs.slots_then.Statement.{statement}
 use Rattle.kept.proofs.slots_then.Tie as tie
 
@@ -10,11 +10,11 @@ add-t4 c = search needs
 returns : tie.Need-returns
 returns c = simp (eq-eqb _ _ (c .before .if1 .taken))
 
-sub-t5 : tie.Need-sub-t5
-sub-t5 c = search needs
+cast-t5 : tie.Need-cast-t5
+cast-t5 c = search needs
 
-cast-t6 : tie.Need-cast-t6
-cast-t6 c = search needs
+sub-t6 : tie.Need-sub-t6
+sub-t6 c = search needs
 
 mul-t7 : tie.Need-mul-t7
 mul-t7 c = search needs
@@ -27,4 +27,4 @@ returns-2 c = simp (ne-eqb _ _ (c .before .before .if1 .left))
 
 pub slots-then-spec : {M : Type 1} → statement M
 slots-then-spec =
-    tie.close (tie.spec add-t4 returns sub-t5 cast-t6 mul-t7 shared-slice-read-t9 returns-2)
+    tie.close (tie.spec add-t4 returns cast-t5 sub-t6 mul-t7 shared-slice-read-t9 returns-2)

@@ -1,6 +1,6 @@
--- An entry is weighed by what the bags say of it, or without them: the two laws of `Visits`. Assumes nothing.
+-- An entry is weighed by what the bags say of it, or without them: the laws of `Visits`. Assumes nothing.
 use borrow.Author.Needs.{needs}
-use Rattle.kept.proofs.Visits.{weighed-unasked, weighed-asked}
+use Rattle.kept.proofs.Visits.{stays-unasked, beside-asked, goes-asked, stays-asked}
 use Rattle.kept.proofs.weigh.Statement.{statement}
 use Rattle.kept.proofs.weigh.Tie as tie
 
@@ -13,17 +13,8 @@ within-requires c κs = search needs
 within-requires-2 : tie.Need-within-requires-2
 within-requires-2 c κs = search needs
 
-in-some-bag-requires : tie.Need-in-some-bag-requires
-in-some-bag-requires c κs = search needs
-
-with-requires : tie.Need-with-requires
-with-requires c κs = search needs
-
 returns : tie.Need-returns
-returns c =
-    let looked = c .before .before .before in
-    weighed-unasked _ _ _ _ _ _ (looked .before .before .apart .ensures) (looked .before .within .ensures) (looked .within2 .ensures) (c .before .before .if1 .taken)
-    (c .before .in-some-bag .ensures .1 _ _ (search needs)) (c .with .ensures)
+returns c = λ at seen. stays-unasked _ _ at _ _ seen (c .before .before .before .apart .ensures) (c .before .before .within .ensures) (c .before .within2 .ensures) (c .if1 .taken)
 
 ask-requires : tie.Need-ask-requires
 ask-requires c κs = search needs
@@ -31,18 +22,14 @@ ask-requires c κs = search needs
 says-parallel-requires : tie.Need-says-parallel-requires
 says-parallel-requires c κs = search needs
 
-says-no-bag-requires : tie.Need-says-no-bag-requires
-says-no-bag-requires c κs = search needs
-
-with-requires-2 : tie.Need-with-requires-2
-with-requires-2 c κs = search needs
-
 returns-2 : tie.Need-returns-2
-returns-2 c =
-    let looked = c .before .before .before .before .before in
-    let asked = c .before .before .before .ask in
-    weighed-asked _ _ _ _ _ _ (asked .result) (looked .before .before .apart .ensures) (looked .before .within .ensures) (looked .within2 .ensures)
-    (asked .ensures .1 .0) (asked .ensures .1 .1) (c .before .before .says-parallel .ensures) (c .before .says-no-bag .ensures) (c .with2 .ensures)
+returns-2 c = let asked = c .before .before in λ at seen. beside-asked _ _ at _ _ seen (asked .before .before .before .before .apart .ensures) (asked .before .before .before .within .ensures) (asked .before .before .within2 .ensures) (asked .ask .result) (asked .ask .ensures .1 .0) (c .before .says-parallel .ensures) (c .if2 .taken)
+
+returns-3 : tie.Need-returns-3
+returns-3 c = let asked = c .before .before .before in λ at seen. goes-asked _ _ at _ _ seen (asked .before .before .before .before .apart .ensures) (asked .before .before .before .within .ensures) (asked .before .before .within2 .ensures) (asked .ask .result) (asked .ask .ensures .1 .0) (c .before .before .says-parallel .ensures) (c .before .if2 .left) (c .if3 .taken)
+
+returns-4 : tie.Need-returns-4
+returns-4 c = let asked = c .before .before .before in λ at seen. stays-asked _ _ at _ _ seen (asked .before .before .before .before .apart .ensures) (asked .before .before .before .within .ensures) (asked .before .before .within2 .ensures) (asked .ask .result) (asked .ask .ensures .1 .0) (c .before .before .says-parallel .ensures) (c .before .if2 .left) (c .if3 .left)
 
 pub weigh-spec : {M : Type 1} → statement M
 weigh-spec =
@@ -51,11 +38,9 @@ weigh-spec =
     apart-requires
     within-requires
     within-requires-2
-    in-some-bag-requires
-    with-requires
     returns
     ask-requires
     says-parallel-requires
-    says-no-bag-requires
-    with-requires-2
-    returns-2)
+    returns-2
+    returns-3
+    returns-4)

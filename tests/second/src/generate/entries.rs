@@ -42,7 +42,7 @@ pub fn spread(random: &mut Random) -> Vec<u8> {
 }
 
 /// All sets of so many locks, the smaller ones first.
-fn sets_by_size(locks: u32) -> Vec<u64> {
+pub fn sets_by_size(locks: u32) -> Vec<u64> {
     let mut sets: Vec<u64> = (0..1 << locks).collect();
     sets.sort_by_key(|set| set.count_ones());
     sets

@@ -4,6 +4,7 @@
 mod broken;
 mod edges;
 mod entries;
+pub mod long;
 mod refused;
 mod shape;
 mod trees;

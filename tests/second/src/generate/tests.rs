@@ -2,7 +2,9 @@
 
 use super::*;
 use crate::call::call;
-use crate::codes::{ACCEPTED, MAIN_NOT_RETURNED, TOO_MANY_ENTRIES, TOO_MANY_PROCEDURES};
+use crate::codes::{
+    ACCEPTED, FROM_BYTES, MAIN_NOT_RETURNED, TOO_MANY_ENTRIES, TOO_MANY_PROCEDURES,
+};
 use std::collections::BTreeSet;
 
 fn made(name: &str, seed: u64) -> Vec<u8> {
@@ -93,6 +95,36 @@ fn lengths_and_races_come_to_lie_right_beside_their_limits() {
     for number in [1_023, 1_024, 1_025] {
         assert!(races.contains(&number), "{races:?}");
     }
+}
+
+#[test]
+fn long_traces_are_as_long_as_asked_for_and_end_in_their_code() {
+    for code in FROM_BYTES {
+        for seed in 0..3 {
+            let made = long::ending_in(code, 40_000, &mut Random::from_seed(seed));
+            let trace = made.expect("every code from bytes has its last ones");
+            let outcome = call(&trace);
+            assert_eq!((trace.len(), outcome.code), (40_000, code), "seed {seed}");
+            // At most the three bytes of the last number are left.
+            assert!(outcome.offset + 3 >= trace.len(), "{code}: seed {seed}");
+        }
+    }
+    for code in [1, 2, 12] {
+        assert!(long::ending_in(code, 40_000, &mut Random::from_seed(0)).is_none());
+    }
+}
+
+#[test]
+fn long_traces_of_syncs_races_and_visits() {
+    assert_eq!(call(&long::syncs(40_000)).events, 40_000);
+    let outcome = call(&long::races(40_000, &mut Random::from_seed(0)));
+    assert_eq!((outcome.code, outcome.offset), (0, 40_000));
+    // All but the spawn, the 15 writes of the body, and the two returns.
+    assert_eq!(outcome.races, 40_000 - 18);
+    let outcome = call(&long::visits(40_000));
+    assert_eq!((outcome.code, outcome.offset), (0, 40_000));
+    // The first accesses visit fewer: the list is not yet full.
+    assert!(outcome.visits > 37_000 * 300, "{}", outcome.visits);
 }
 
 #[test]

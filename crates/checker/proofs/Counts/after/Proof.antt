@@ -9,9 +9,6 @@ add-t5 c = search needs
 add-t7 : tie.Need-add-t7
 add-t7 c = search needs
 
-count-requires : tie.Need-count-requires
-count-requires c κs = search needs
-
 larger-requires : tie.Need-larger-requires
 larger-requires c κs = search needs
 
@@ -19,4 +16,4 @@ returns : tie.Need-returns
 returns c = cc
 
 pub after-spec : {M : Type 1} → statement M
-after-spec = tie.close (tie.spec add-t5 add-t7 count-requires larger-requires returns)
+after-spec = tie.close (tie.spec add-t5 add-t7 larger-requires returns)

@@ -1,38 +1,53 @@
--- `trace::Event::entry` meets its contract: the constant array is 01's table, and past its last row stand zeros.
+-- `trace::Event::entry` meets its contract: each row of the constant array is 01's row of that kind, and past the last row stand zeros.
 -- Assumes nothing.
-use Prim.Native.Nat.{ℕ}
-use mathlib.Core.Path.{sym, ap}
-use mathlib.Core.List.{List, []}
+use Prim.Native.Nat.{ℕ, zero, suc, _≤_, zero-le}
+use mathlib.Core.Path.{_≡_}
+use mathlib.Core.List.{[]}
+use native.Mathlib.Omega.{arith}
 use lib.ListN.{getD, List·getD-eq-default}
 use borrow.Author.Needs.{needs}
+use Rattle.trace.specs.declared.Event.{Event}
 use Rattle.trace.specs.Kinds.{kinds, entry}
 use Rattle.trace.proofs.Event.entry.Statement.{statement}
 use Rattle.trace.proofs.Event.entry.Tie as tie
 
-cast-row : tie.Need-cast-row
-cast-row c = search needs
-
-mul-result : tie.Need-mul-result
-mul-result c = search needs
-
-mul-result-2 : tie.Need-mul-result-2
-mul-result-2 c = search needs
-
-index-1-result : tie.Need-index-1-result
-index-1-result c = search needs
-
-index-2-result : tie.Need-index-2-result
-index-2-result c = search needs
-
-returns : tie.Need-returns
+-- the row of a kind has the entries of every event of that kind
+in-row : (e : Event) (kind column : ℕ) → e .kind ≡ kind → getD (getD kinds kind []) column 0 ≡ entry e column
 unfolding entry
-returns c = search needs
+in-row e kind column is = rw is
 
-returns-2 : tie.Need-returns-2
+-- a kind that is none of the first ones comes after them
+abbrev NoneOf : ℕ → ℕ → Type 0
+NoneOf zero kind = Unit {0}
+NoneOf (suc first) kind = NoneOf first kind × (kind ≡ first → ⊥)
+
+after : (first kind : ℕ) → NoneOf first kind → first ≤ kind
+after zero kind none = zero-le
+after (suc first) kind none = omega (arith, after first kind (none .0), none .1)
+
+in-no-row : (e : Event) (column : ℕ) → NoneOf 8 (e .kind) → 0 ≡ entry e column
 unfolding entry
-returns-2 c = ap (λ (row : List ℕ). getD row (c .before .before .args .column) 0) (sym (List·getD-eq-default kinds [] {n = c .before .before .args .self .kind} (search needs)))
+in-no-row e column none = rw (List·getD-eq-default kinds [] (after 8 (e .kind) none))
 
+-- first that each of the eight places is in the table, then what is read there
 pub entry-spec : {M : Type 1} → statement M
 entry-spec =
     tie.close
-    (tie.spec cast-row mul-result mul-result-2 index-1-result index-2-result returns returns-2)
+    (tie.spec
+    (λ c. search needs) (λ c. search needs) (λ c. search needs)
+    (λ c. search needs) (λ c. search needs) (λ c. search needs)
+    (λ c. search needs) (λ c. search needs) (λ c. search needs)
+    (λ c. search needs) (λ c. search needs) (λ c. search needs)
+    (λ c. search needs) (λ c. search needs) (λ c. search needs)
+    (λ c. search needs) (λ c. search needs) (λ c. search needs)
+    (λ c. search needs) (λ c. search needs) (λ c. search needs)
+    (λ c. search needs) (λ c. search needs) (λ c. search needs)
+    (λ c. in-row _ _ _ (c .before .match .keys1))
+    (λ c. in-row _ _ _ (c .before .match .keys2))
+    (λ c. in-row _ _ _ (c .before .match .keys3))
+    (λ c. in-row _ _ _ (c .before .match .keys4))
+    (λ c. in-row _ _ _ (c .before .match .keys5))
+    (λ c. in-row _ _ _ (c .before .match .keys6))
+    (λ c. in-row _ _ _ (c .before .match .keys7))
+    (λ c. in-row _ _ _ (c .before .match .keys8))
+    (λ c. in-no-row _ _ (c .match .rest)))

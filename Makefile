@@ -1,0 +1,56 @@
+# Builds the library and the program over it, installs them, and runs what tests and measures them. Everything made is
+# under target/.
+PREFIX ?= /usr/local
+CFLAGS ?= -O2 -Wall -Wextra
+INSTALL ?= install
+
+version := 0.1.0
+library := target/staticlib/libzobukwami.a
+program := target/bin/check_file
+crates := crates.txt $(shell find crates -name '*.rt' -o -name '*.antt')
+prefix = $(abspath $(PREFIX))
+to = $(DESTDIR)$(prefix)
+
+.PHONY: all install uninstall test bench fuzz clean
+.DELETE_ON_ERROR:
+
+all: $(library) $(program)
+
+# rt proves a crate and all that it stands on before it builds it, which takes minutes the first time.
+$(library): $(crates)
+	rt staticlib zobukwami
+
+# A program that is proved already is not written anew. After the library, as only one rt may work at a time.
+target/bin/racecheck: $(crates) | $(library)
+	rt check racecheck
+	touch -c $@
+
+$(program): examples/check_file.c include/zobukwami.h $(library)
+	mkdir -p $(@D)
+	$(CC) -std=c11 -Iinclude $(CPPFLAGS) $(CFLAGS) $(LDFLAGS) -o $@ $< $(library)
+
+install: all
+	sed 's|@PREFIX@|$(prefix)|; s|@VERSION@|$(version)|' zobukwami.pc.in >target/zobukwami.pc
+	$(INSTALL) -d '$(to)/include' '$(to)/lib/pkgconfig' '$(to)/bin'
+	$(INSTALL) -m 644 include/zobukwami.h '$(to)/include/zobukwami.h'
+	$(INSTALL) -m 644 $(library) '$(to)/lib/libzobukwami.a'
+	$(INSTALL) -m 644 target/zobukwami.pc '$(to)/lib/pkgconfig/zobukwami.pc'
+	$(INSTALL) -m 755 $(program) '$(to)/bin/zobukwami-check'
+
+uninstall:
+	rm -f '$(to)/include/zobukwami.h' '$(to)/lib/libzobukwami.a' '$(to)/lib/pkgconfig/zobukwami.pc'
+	rm -f '$(to)/bin/zobukwami-check'
+
+test: all target/bin/racecheck
+	.ci/c
+	.ci/second
+	.ci/fire
+
+bench: all
+	bench/run
+
+fuzz: all
+	tests/fuzz/run
+
+clean:
+	rm -rf target

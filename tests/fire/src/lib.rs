@@ -1,0 +1,12 @@
+//! The library under fire: one call of it through the C interface, lent memory
+//! between protected pages, and held against the second program in every number
+//! that it returns, writes or has to leave alone.
+
+pub mod case;
+pub mod difference;
+pub mod dirt;
+pub mod guarded;
+pub mod lender;
+pub mod lending;
+pub mod library;
+pub mod numbers;
