@@ -7,6 +7,7 @@ INSTALL ?= install
 version := 0.1.0
 library := target/staticlib/libzobukwami.a
 program := target/bin/check_file
+documents := share/doc/zobukwami
 crates := crates.txt $(shell find crates -name '*.rt' -o -name '*.antt')
 prefix = $(abspath $(PREFIX))
 to = $(DESTDIR)$(prefix)
@@ -31,15 +32,17 @@ $(program): examples/check_file.c include/zobukwami.h $(library)
 
 install: all
 	sed 's|@PREFIX@|$(prefix)|; s|@VERSION@|$(version)|' zobukwami.pc.in >target/zobukwami.pc
-	$(INSTALL) -d '$(to)/include' '$(to)/lib/pkgconfig' '$(to)/bin'
+	$(INSTALL) -d '$(to)/include' '$(to)/lib/pkgconfig' '$(to)/bin' '$(to)/$(documents)'
 	$(INSTALL) -m 644 include/zobukwami.h '$(to)/include/zobukwami.h'
 	$(INSTALL) -m 644 $(library) '$(to)/lib/libzobukwami.a'
 	$(INSTALL) -m 644 target/zobukwami.pc '$(to)/lib/pkgconfig/zobukwami.pc'
 	$(INSTALL) -m 755 $(program) '$(to)/bin/zobukwami-check'
+	$(INSTALL) -m 644 docs/CODES.md docs/CONTRACTS.md docs/ROOM.md '$(to)/$(documents)'
 
 uninstall:
 	rm -f '$(to)/include/zobukwami.h' '$(to)/lib/libzobukwami.a' '$(to)/lib/pkgconfig/zobukwami.pc'
 	rm -f '$(to)/bin/zobukwami-check'
+	rm -rf '$(to)/$(documents)'
 
 test: all target/bin/racecheck
 	.ci/c

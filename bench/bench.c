@@ -12,9 +12,7 @@
 #include "workloads.h"
 #include "zobukwami.h"
 
-typedef zobukwami_answer call(
-    const uint8_t *, size_t, uint32_t *, size_t, uint32_t *, size_t, uint32_t *, size_t, uint32_t *, size_t, uint32_t *,
-    size_t, uint64_t *, size_t, uint32_t *, size_t, uint32_t *, size_t);
+typedef __typeof__(zobukwami_check) call;
 
 call runs_gcc, runs_clang, forest_gcc, forest_clang;
 

@@ -24,9 +24,9 @@ END {
         exit 1
     }
     for (i = 1; i in name; i++) {
-        if (name[i] == name[i + 1])
+        if ((i + 1) in name && name[i] == name[i + 1])
             i++
-        twice = name[i] == name[i - 1]
+        twice = (i - 1) in name && name[i] == name[i - 1]
         e = events[i] - (twice ? events[i - 1] : 0)
         v = visits[i] - (twice ? visits[i - 1] : 0)
         n = instructions[i] - (twice ? instructions[i - 1] : 0)

@@ -1,8 +1,9 @@
 /* Zobukwami: names every access of a recorded Cilk run that races with an earlier one.
 
    Lend a trace, a report and working room to zobukwami_check, or all the room at once to zobukwami_check_in. Neither
-   takes memory of its own, keeps anything between calls, or prints; calls that are lent different room may run at
-   once. What the call promises is proved (docs/CONTRACTS.md); what it is lent is in docs/ROOM.md. */
+   allocates memory, keeps anything between calls, or prints; calls that are lent different room and reports may run at
+   once. What the call promises is proved: CONTRACTS.md says what; ROOM.md says what is lent, and CODES.md what each code
+   asks for. */
 #ifndef ZOBUKWAMI_H
 #define ZOBUKWAMI_H
 
@@ -19,7 +20,7 @@ enum {
     ZOBUKWAMI_NUMBERS = 3            /* numbers in an entry of the report: location, earlier event, later event */
 };
 
-/* What the code of an answer says. docs/CODES.md has what to do about each. */
+/* What the code of an answer says. */
 enum {
     ZOBUKWAMI_ACCEPTED = 0,         /* every byte accepted and main has returned */
     ZOBUKWAMI_ROOM_SHORT = 1,       /* a piece of working room is too short */
@@ -59,9 +60,9 @@ typedef struct zobukwami_room {
     uint32_t joins[ZOBUKWAMI_PIECE];
 } zobukwami_room;
 
-/* Checks a trace. Each pointer is followed by how many bytes or numbers it leads to; a pointer may be NULL where that is
-   0. None of what is lent may overlap. Of each piece of room the first ZOBUKWAMI_PIECE numbers are used; a shorter one
-   gets ZOBUKWAMI_ROOM_SHORT. The report takes as many entries as fit and may have any length. */
+/* Checks a trace. Each pointer is followed by how many bytes or numbers it leads to; it may be NULL where that is 0.
+   Nothing that is lent may overlap. Of each piece of room the first ZOBUKWAMI_PIECE numbers are used; a shorter one gets
+   ZOBUKWAMI_ROOM_SHORT. The report takes as many entries as fit and may have any length. */
 zobukwami_answer zobukwami_check(
     const uint8_t *trace, size_t trace_length,
     uint32_t *report, size_t report_length,

@@ -3,10 +3,10 @@
 use Prim.Native.Nat.{ℕ, zero, suc, _<_}
 use mathlib.Core.Path.{_≡_, refl, sym, ap, _∙_}
 use mathlib.Core.Logic.{_≢_}
-use mathlib.Core.Bool.{Bool, true, false, _||_, true≢false}
+use mathlib.Core.Bool.{Bool, true, false, not, _&&_, _||_, true≢false}
 use native.Mathlib.Omega.{arith}
 use lib.Dec.{eqb}
-use borrow.Author.Tests.{eqb-true, ne-eqb}
+use borrow.Author.Tests.{eqb-true, ne-eqb, not-true, not-false}
 use Rattle.trace.specs.declared.Event.{Event}
 use Rattle.trace.specs.Kinds.{isSpawn, isLocking, isUnlocking, entry, lawfulHolding, isAccess}
 use Rattle.bags.specs.Parallel.{return, other}
@@ -73,3 +73,14 @@ lawful-kinds e = by-row (e .kind)
     by-row (suc (suc (suc (suc (suc (suc zero)))))) = refl
     by-row (suc (suc (suc (suc (suc (suc (suc zero))))))) = refl
     by-row (suc (suc (suc (suc (suc (suc (suc (suc m)))))))) = sym (past (suc (suc (suc (suc (suc (suc (suc (suc m)))))))) (omega arith))
+
+-- So an event that is none of these is not; and then the table and the set of locks held tell whether a lock is held.
+pub unlawful : (e : Event) → e .kind ≢ 3 → e .kind ≢ 4 → isAccess e ≡ false → lawfulHolding e ≡ false
+unlawful e not-3 not-4 no-access = lawful-kinds e ∙ rw (ne-eqb _ _ not-3, ne-eqb _ _ not-4, no-access) refl
+
+pub none-held : {l b lawful empty : Bool} → l ≡ lawful → b ≡ empty → lawful ≡ false → (not l && not b) ≡ false → empty ≡ true
+none-held {b = b} p q holds-none tested = sym q ∙ not-false b (rw (p ∙ holds-none) at tested)
+
+pub some-held : (l : Bool) {b empty : Bool} → b ≡ empty → (not l && not b) ≡ true → empty ≡ false
+some-held false {b} q tested = sym q ∙ not-true b tested
+some-held true q tested = absurd (true≢false (sym tested))

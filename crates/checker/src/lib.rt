@@ -291,7 +291,7 @@ fn step(
     }
 }
 
-// An event that is no access, while main runs. The rules of codes 8 to 10 each speak of other kinds, and are tested there.
+// An event that is no access, while main runs. Codes 8 to 11 are each tested where the kind is one that they speak of.
 fn bring_other(
     state: State,
     event: Event,
@@ -324,7 +324,7 @@ fn bring_other(
         }
         return Stepped::Next(state.after_other(next, held.release(lock), pairs, 0));
     }
-    if !held.is_empty() {
+    if !event.lawful_holding() & !held.is_empty() {
         return Stepped::Stop(HOLDING);
     }
     if kind == SPAWN {

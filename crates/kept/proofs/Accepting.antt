@@ -20,10 +20,10 @@ use Rattle.kept.specs.Rules.{dropped, left, added, after, changedAt, inA
 use Rattle.kept.specs.Pieces.{Pieces, pieces, pieceSize, slotsOf, slotsFreed, entryAt, listsIn, Chain, LaidOut, Room}
 use Rattle.kept.specs.Access.{parallelBy, inNoBag, accessed, placeAt, freeing, nextSlot, freedThen, usedThen, linkTo}
 use Rattle.kept.specs.Access.{drops, isOmitted, slotsLeft, pool, slotsAfter, Accepted}
-use Rattle.kept.specs.Parts.{isFull, namedAt, headsLinked, linksLinked, dropsBy, howMany, Pruned, slotFor, slotsThen}
+use Rattle.kept.specs.Parts.{isFull, namedAt, headsLinked, linksLinked, dropsBy, howMany, lastOf, Pruned, slotFor, slotsThen}
 use Rattle.kept.proofs.Lists.{either-way}
 use Rattle.kept.proofs.Sums.{sum-agree, sum-changed}
-use Rattle.kept.proofs.Chains.{lastOf, chain-link, linked-heads-length, linked-length}
+use Rattle.kept.proofs.Chains.{chain-link, linked-heads-length, linked-length}
 use Rattle.kept.proofs.Laid.{place-here, place-twice, laid-last, laid-first, laid-next, laid-then}
 use Rattle.kept.proofs.Laid.{laid-appended, appended-links-rest, linked-heads-rest}
 use Rattle.kept.proofs.Telling.{Told}

@@ -13,13 +13,7 @@ use lib.Seq.{getD-set-same, getD-set-other}
 use borrow.Author.Tests.{eq-eqb, ne-eqb}
 use Rattle.kept.specs.Pieces.{pieceSize, slotsFrom, Chain, timesIn}
 use Rattle.kept.specs.Access.{linkTo}
-use Rattle.kept.specs.Parts.{headsLinked, linksLinked}
-
--- The link that names the last of these slots, 0 if there is none.
-unfoldable pub lastOf : List ℕ → ℕ
-lastOf [] = 0
-lastOf (s ∷ []) = suc s
-lastOf (s ∷ t ∷ ss) = lastOf (t ∷ ss)
+use Rattle.kept.specs.Parts.{headsLinked, linksLinked, lastOf}
 
 -- ---- how often a slot stands in a list
 

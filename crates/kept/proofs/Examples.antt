@@ -135,10 +135,10 @@ first-is-named = refl
 -- ---- what is seen of a list
 
 -- Slots 0 and 1 hold two entries of main, under no lock and under lock 0; the new access has lock 0. Both are visited though none races; the second
--- is to be dropped, so the last that stays is in slot 0, which the link 1 names.
+-- is to be dropped, and the link 2 leads to it; so the last that stays, also of those before it, is in slot 0, which the link 1 names.
 pub seen-of-two :
     seenOver mainRuns (new 1) (0 ∷ 0 ∷ []) (0 ∷ 1 ∷ []) (0 ∷ 1 ∷ []) nothingSeen
-    ≡ record { visits = 2; race = 0; omitted = false; dropped = 1; last = 1 }
+    ≡ record { visits = 2; race = 0; omitted = false; dropped = 1; last = 1; first = 2; before = 1 }
 unfolding seenOver weighedEntry races dropped omits isIn every apart within member inSBag inPBag inSomeBag
 seen-of-two = refl
 
@@ -161,8 +161,10 @@ pub full-or-not :
     (isFull nothingSeen (record { freed = 0; used = 4096 }) ≡ true)
     × (isFull nothingSeen (record { freed = 0; used = 4095 }) ≡ false)
     × (isFull nothingSeen (record { freed = 3; used = 4096 }) ≡ false)
-    × (isFull (record { visits = 1; race = 0; omitted = false; dropped = 1; last = 0 }) (record { freed = 0; used = 4096 }) ≡ false)
-    × (isFull (record { visits = 1; race = 0; omitted = true; dropped = 0; last = 1 }) (record { freed = 0; used = 4096 }) ≡ false)
+    × (isFull (record { visits = 1; race = 0; omitted = false; dropped = 1; last = 0; first = 1; before = 0 })
+    (record { freed = 0; used = 4096 }) ≡ false)
+    × (isFull (record { visits = 1; race = 0; omitted = true; dropped = 0; last = 1; first = 0; before = 0 })
+    (record { freed = 0; used = 4096 }) ≡ false)
 full-or-not = (refl, refl, refl, refl, refl)
 
 -- Link 1 leads to slot 0, and from there the link 0 ends the list; a link to the slot itself would never end it.

@@ -16,9 +16,9 @@ use Rattle.kept.specs.declared.Slots.{Slots}
 use Rattle.kept.specs.Lists.{sumBelow}
 use Rattle.kept.specs.Pieces.{pieceSize, slotsOf, slotsFreed, timesIn, Chain, LaidOut}
 use Rattle.kept.specs.Access.{placeAt, nextSlot, freedThen, usedThen, linkTo}
-use Rattle.kept.specs.Parts.{headsLinked, linksLinked, slotFor, slotsThen}
+use Rattle.kept.specs.Parts.{headsLinked, linksLinked, lastOf, slotFor, slotsThen}
 use Rattle.kept.proofs.Sums.{sum-agree, sum-changed, sum-term, sum-two-terms}
-use Rattle.kept.proofs.Chains.{lastOf, times-append, times-self, last-below, chain-slots, chain-link, chain-below, chain-rest}
+use Rattle.kept.proofs.Chains.{times-append, times-self, last-below, chain-slots, chain-link, chain-below, chain-rest}
 use Rattle.kept.proofs.Chains.{chain-frame, linked-length, linked-heads-elsewhere, linked-frame, relinked}
 
 -- ---- one list put in place of another

@@ -1,13 +1,11 @@
 -- A list of one entry: what is seen of it, and, where the entry is dropped, the new one in its slot. Assumes nothing.
 use Prim.Native.Nat.{ℕ, suc, _-_, _≤_, _<_}
 use mathlib.Core.Path.{_≡_, refl, sym, ap, _∙_}
-use mathlib.Core.Bool.{Bool, true, false, cond, not, _&&_, and-false, true≢false}
-use mathlib.Core.List.{List, [], _∷_, map}
+use mathlib.Core.Bool.{Bool, true, false, not, and-false, true≢false}
+use mathlib.Core.List.{List, [], _∷_}
 use native.Mathlib.Omega.{arith}
-use lib.Dec.{eqb}
 use lib.ListN.{getD, set}
 use borrow.Author.Tests.{not-true, not-false, ne-eqb}
-use Rattle.locks.specs.Sets.{apart, within}
 use Rattle.bags.specs.Bags.{Bags, inSomeBag}
 use Rattle.kept.specs.declared.Entry.{Entry}
 use Rattle.kept.specs.declared.Slots.{Slots}
@@ -17,12 +15,12 @@ use Rattle.kept.specs.declared.Named.the-variants.{Nobody}
 use Rattle.kept.specs.Lists.{any, first, those}
 use Rattle.kept.specs.Rules.{races, named, dropped, omits}
 use Rattle.kept.specs.Pieces.{Pieces, pieces, pieceSize, slotsOf, slotsFreed, entryAt, listsIn, Chain, Room}
-use Rattle.kept.specs.Access.{parallelBy, inNoBag, placeAt, freeing, drops, isOmitted, slotsLeft, slotsAfter, linkTo, Accepted}
+use Rattle.kept.specs.Access.{parallelBy, inNoBag, freeing, drops, isOmitted, slotsAfter, linkTo, Accepted}
 use Rattle.kept.specs.Parts.{entryOf, nothingSeen, into, weighedEntry, seenOver, isFull, namedAt, dropsBy, Pruned}
 use Rattle.kept.proofs.Lists.{either-way}
 use Rattle.kept.proofs.Chains.{chain-link}
 use Rattle.kept.proofs.Laid.{place-same}
-use Rattle.kept.proofs.Pruning.{prune-begins, prune-ends}
+use Rattle.kept.proofs.Pruning.{none-pruned}
 use Rattle.kept.proofs.Telling.{Told, seen-tells, dropped-counted, room-walkable}
 
 -- A head that leads to a slot whose link is 0 is the head of such a list.
@@ -77,9 +75,8 @@ module _ (bs : List Bags) (x : ℕ) (e : Entry) (p : Pieces) (slots : Slots) (ro
   pub nothing-pruned : (seen : Seen) → Told bs x e p slots seen → seen .dropped ≡ 0
       → Pruned (dropsBy bs e (p .procedures) (p .sets)) x (p .heads) (p .links) slots (p .heads) (p .links) slots
   nothing-pruned seen told none =
-      let drops-here = dropsBy bs e (p .procedures) (p .sets) in
-      let begins = prune-begins drops-here x (p .heads) (p .links) slots 0 here (room .laid-out) (sym none ∙ dropped-counted bs x e p slots seen told) in
-      prune-ends drops-here x (p .heads) (p .links) slots here (p .heads) (p .links) (slots .freed) 0 (getD (p .heads) x 0) 0 begins refl
+      none-pruned (dropsBy bs e (p .procedures) (p .sets)) x (p .heads) (p .links) slots (room .laid-out)
+      (sym (dropped-counted bs x e p slots seen told) ∙ none)
 
   -- It is dropped: so it is not parallel, and neither races nor leaves the new one out.
   module _ (seen : Seen) (told : Told bs x e p slots seen) (some : seen .dropped ≡ 0 → ⊥) where

@@ -2,7 +2,7 @@
 -- freed earlier. Assumes nothing.
 use Prim.Native.Nat.{ℕ, suc, _+_, _-_, _≤_, _<_}
 use mathlib.Core.Path.{_≡_, refl, sym, ap, _∙_}
-use mathlib.Core.Bool.{Bool, true, false, not}
+use mathlib.Core.Bool.{Bool, true, false, cond, not}
 use mathlib.Core.List.{List, [], _∷_, _++_, append-assoc}
 use native.Mathlib.Omega.{arith}
 use lib.ListN.{length, getD, set, drop, length-set, length-append}
@@ -10,9 +10,9 @@ use Rattle.kept.specs.declared.Slots.{Slots}
 use Rattle.kept.specs.Lists.{those}
 use Rattle.kept.specs.Pieces.{pieceSize, slotsFrom, slotsOf, slotsFreed, Chain, LaidOut, RestKept}
 use Rattle.kept.specs.Access.{placeAt, freeing, linkTo}
-use Rattle.kept.specs.Parts.{headsLinked, linksLinked, howMany, Pruned}
+use Rattle.kept.specs.Parts.{headsLinked, linksLinked, howMany, lastOf, FirstDropped, Pruned}
 use Rattle.kept.proofs.Lists.{either-way}
-use Rattle.kept.proofs.Chains.{lastOf, chain-slots, chain-link, linked-heads-length, linked-length}
+use Rattle.kept.proofs.Chains.{chain-slots, chain-link, linked-heads-length, linked-length}
 use Rattle.kept.proofs.Laid.{place-same, place-twice, place-here, laid-few, laid-last, laid-detached, detached-links-rest, linked-heads-rest}
 
 -- ---- lists of which none is dropped
@@ -32,6 +32,18 @@ module _ (drops : ℕ → Bool) where
   unfolding those freeing
   none-freed [] freed none = refl
   none-freed (s ∷ ss) freed none = either-way (drops s) (λ e. absurd (omega (arith, rw e at none))) (λ e. rw e (none-freed ss freed (rw e at none)))
+
+  -- Of two lists those that stay come one after the other, and so do those freed.
+  those-append : (test : ℕ → Bool) (ps ss : List ℕ) → those test (ps ++ ss) ≡ those test ps ++ those test ss
+  unfolding those
+  those-append test [] ss = refl
+  those-append test (p ∷ ps) ss =
+      either-way (test p) (λ e. rw e (ap (λ (t : List ℕ). p ∷ t) (those-append test ps ss))) (λ e. rw e (those-append test ps ss))
+
+  freeing-append : (ps ss freed : List ℕ) → freeing drops (ps ++ ss) freed ≡ freeing drops ss (freeing drops ps freed)
+  unfolding freeing
+  freeing-append [] ss freed = refl
+  freeing-append (p ∷ ps) ss freed = freeing-append ps ss (cond (drops p) (p ∷ freed) freed)
 
 -- The last of a list with one put at its end.
 last-of-more : (ps : List ℕ) (s : ℕ) → lastOf (ps ++ s ∷ []) ≡ suc s
@@ -63,20 +75,40 @@ module _ (drops : ℕ → Bool) (x : ℕ) (heads₀ links₀ : List ℕ) (slots 
     pub heads-rest : RestKept pieceSize heads₀ heads
     pub links-rest : RestKept (slots .used) links₀ links
 
-  pub prune-begins : (count : ℕ) → x < pieceSize
-      → LaidOut heads₀ links₀ slots (slotsOf heads₀ links₀) (slotsFreed links₀ slots) → count ≡ howMany drops whole
-      → Pruning heads₀ links₀ (slots .freed) 0 (getD heads₀ x 0) count
-  unfolding lastOf
-  prune-begins count here laid counted = record {
-    passed = [];
-    ahead = whole;
-    pool = slotsFreed links₀ slots;
-    laid = rw (place-same x (slotsOf heads₀ links₀)) laid;
-    named = refl;
-    leads = chain-link links₀ (getD heads₀ x 0) whole (laid .chains x here);
-    counted = counted;
-    stayed = refl;
-    gone = refl;
+  -- The walk begins after slots that stay.
+  pub prune-begins : (count first before : ℕ) → LaidOut heads₀ links₀ slots (slotsOf heads₀ links₀) (slotsFreed links₀ slots)
+      → count ≡ howMany drops whole → FirstDropped drops whole first before → Pruning heads₀ links₀ (slots .freed) before first count
+  prune-begins count first before laid counted begins =
+      let passed = begins .passed in
+      let ahead = begins .ahead in
+      let same = sym (begins .whole) in
+      record {
+        passed = passed;
+        ahead = ahead;
+        pool = slotsFreed links₀ slots;
+        laid = rw (begins .whole, place-same x (slotsOf heads₀ links₀)) laid;
+        named = begins .named;
+        leads = begins .leads;
+        counted =
+            let parted = ap length (those-append drops drops passed ahead) ∙ length-append (those drops passed) (those drops ahead) in
+            omega (arith, counted, ap (howMany drops) same, parted, begins .none-passed);
+        stayed =
+            ap (those (stays drops)) same ∙ those-append drops (stays drops) passed ahead
+            ∙ ap (λ (ps : List ℕ). ps ++ those (stays drops) ahead) (none-dropped drops passed (begins .none-passed));
+        gone =
+            ap (λ (ss : List ℕ). freeing drops ss (slotsFreed links₀ slots)) same ∙ freeing-append drops passed ahead (slotsFreed links₀ slots)
+            ∙ ap (freeing drops ahead) (none-freed drops passed (slotsFreed links₀ slots) (begins .none-passed));
+        heads-rest = record { same-length = refl; same-rest = refl };
+        links-rest = record { same-length = refl; same-rest = refl };
+      }
+
+  -- Where none is dropped, everything stays as it is.
+  pub none-pruned : LaidOut heads₀ links₀ slots (slotsOf heads₀ links₀) (slotsFreed links₀ slots) → howMany drops whole ≡ 0
+      → Pruned drops x heads₀ links₀ slots heads₀ links₀ slots
+  none-pruned laid none = record {
+    laid-out =
+        rw (none-dropped drops whole none, none-freed drops whole (slotsFreed links₀ slots) none, place-same x (slotsOf heads₀ links₀)) laid;
+    same-used = refl;
     heads-rest = record { same-length = refl; same-rest = refl };
     links-rest = record { same-length = refl; same-rest = refl };
   }
@@ -122,12 +154,13 @@ module _ (drops : ℕ → Bool) (x : ℕ) (heads₀ links₀ : List ℕ) (slots 
             (omega arith, omega (arith, chain .1), omega (arith, last-fit, w .named, w .laid .used-fit))
 
     -- A slot that is dropped is detached and freed.
-    pub prune-drops : pieceSize ≤ length heads₀ → pieceSize ≤ length links₀ → (heads′ links′ : List ℕ) → (left ≡ 0 → ⊥) → drops (at - 1) ≡ true
-        → heads′ ≡ headsLinked last x (getD links (at - 1) 0) heads → links′ ≡ linksLinked last (getD links (at - 1) 0) links
-        → Step heads links freed last at left w heads′ (set links′ (at - 1) freed) at last (getD links (at - 1) 0) (left - 1)
+    pub prune-drops : pieceSize ≤ length heads₀ → pieceSize ≤ length links₀ → (heads′ links′ : List ℕ) (at′ : ℕ) → (left ≡ 0 → ⊥)
+        → drops (at - 1) ≡ true → at′ ≡ getD links (at - 1) 0 → heads′ ≡ headsLinked last x (getD links (at - 1) 0) heads
+        → links′ ≡ linksLinked last (getD links (at - 1) 0) links
+        → Step heads links freed last at left w heads′ (set links′ (at - 1) freed) at last at′ (left - 1)
     unfolding Chain those freeing
-    prune-drops heads-fit links-fit heads′ links′ ne falls heads-linked links-linked =
-        rw (heads-linked, links-linked) (go (w .ahead) refl (w .leads) (w .counted) ahead-chain)
+    prune-drops heads-fit links-fit heads′ links′ at′ ne falls onward heads-linked links-linked =
+        rw (heads-linked, links-linked, onward) (go (w .ahead) refl (w .leads) (w .counted) ahead-chain)
       where
         go : (ss : List ℕ) → w .ahead ≡ ss → at ≡ linkTo ss → left ≡ howMany drops ss → Chain links (linkTo ss) ss
             → Step heads links freed last at left w (headsLinked last x (getD links (at - 1) 0) heads)
@@ -168,10 +201,10 @@ module _ (drops : ℕ → Bool) (x : ℕ) (heads₀ links₀ : List ℕ) (slots 
             )
 
     -- A slot that stays is passed.
-    pub prune-stays : (left ≡ 0 → ⊥) → drops (at - 1) ≡ false
-        → Step heads links freed last at left w heads links freed at (getD links (at - 1) 0) left
+    pub prune-stays : (at′ : ℕ) → (left ≡ 0 → ⊥) → drops (at - 1) ≡ false → at′ ≡ getD links (at - 1) 0
+        → Step heads links freed last at left w heads links freed at at′ left
     unfolding Chain those freeing
-    prune-stays ne stands = go (w .ahead) refl (w .leads) (w .counted) ahead-chain
+    prune-stays at′ ne stands onward = rw onward (go (w .ahead) refl (w .leads) (w .counted) ahead-chain)
       where
         go : (ss : List ℕ) → w .ahead ≡ ss → at ≡ linkTo ss → left ≡ howMany drops ss → Chain links (linkTo ss) ss
             → Step heads links freed last at left w heads links freed at (getD links (at - 1) 0) left

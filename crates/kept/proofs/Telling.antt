@@ -1,12 +1,13 @@
 -- What is seen of a whole list is what the rules say of it, one count or test at a time, each by induction over the slots. Assumes nothing.
 use Prim.Native.Nat.{ℕ, zero, suc, _+_, _≤_, _<_}
 use mathlib.Core.Path.{_≡_, refl, sym, ap, _∙_}
-use mathlib.Core.Bool.{Bool, true, false, cond, not, _&&_, _||_, or-false, true≢false}
-use mathlib.Core.List.{List, [], _∷_, map}
+use mathlib.Core.Bool.{Bool, true, false, cond, not, _&&_, _||_, and-false, or-false, true≢false}
+use mathlib.Core.List.{List, [], _∷_, _++_, map}
 use mathlib.Core.Option.{Option, none, some}
 use native.Mathlib.Omega.{arith}
 use lib.Dec.{eqb, eqb·suc-zero}
 use lib.ListN.{length, getD, length-map}
+use borrow.Author.Tests.{eq-eqb, ne-eqb}
 use Rattle.bags.specs.Bags.{Bags}
 use Rattle.kept.specs.declared.Entry.{Entry}
 use Rattle.kept.specs.declared.Seen.{Seen}
@@ -16,10 +17,10 @@ use Rattle.kept.specs.declared.Slots.{Slots}
 use Rattle.kept.specs.Lists.{any, first, those}
 use Rattle.kept.specs.Rules.{races, named, dropped, omits}
 use Rattle.kept.specs.Pieces.{Pieces, pieceSize, slotsOf, slotsFreed, entryAt, listsIn, Chain, Room}
-use Rattle.kept.specs.Access.{parallelBy, inNoBag, nobodyOr, drops, isOmitted, slotsLeft}
-use Rattle.kept.specs.Parts.{entryOf, nothingSeen, weighedEntry, seenOver, someStray, lookedOver, Walkable, namedAt, dropsBy, howMany}
+use Rattle.kept.specs.Access.{parallelBy, inNoBag, nobodyOr, drops, isOmitted, slotsLeft, linkTo}
+use Rattle.kept.specs.Parts.{entryOf, nothingSeen, weighedEntry, seenOver, someStray, lookedOver, Walkable, namedAt}
+use Rattle.kept.specs.Parts.{dropsBy, howMany, lastOf, FirstDropped}
 use Rattle.kept.proofs.Lists.{either-way}
-use Rattle.kept.proofs.Chains.{lastOf}
 use Rattle.kept.proofs.Laid.{laid-few}
 
 -- ---- lists
@@ -79,6 +80,14 @@ race-of-none : (r : ℕ) → r ≡ cond (eqb r 0) 0 r
 race-of-none zero = refl
 race-of-none (suc r) = rw (eqb·suc-zero r)
 
+-- Once some are to be dropped, there are some; and another to be dropped is not the first.
+some-more : (b : Bool) (d : ℕ) → (d ≡ 0 → ⊥) → cond b (d + 1) d ≡ 0 → ⊥
+some-more true d ne z = omega (arith, z)
+some-more false d ne z = ne z
+
+not-the-first : (b : Bool) (d new old : ℕ) → (d ≡ 0 → ⊥) → cond (b && eqb d 0) new old ≡ old
+not-the-first b d new old ne = rw (ne-eqb d 0 ne, and-false b) refl
+
 -- The two answers differ, and everything seen is what it holds.
 abbrev isStray : Looked → Bool
 isStray Stray = true
@@ -134,6 +143,41 @@ module _ (bs : List Bags) (e : Entry) (procedures sets : List ℕ) where
       last-seen ss (next s seen)
       ∙ last-from-more (dropsBy bs e procedures sets s) (seen .last) s (those (λ s. not (dropsBy bs e procedures sets s)) ss)
 
+  -- The first to be dropped stands; and where there was none before, it comes after slots that stay.
+  first-stands : (ss : List ℕ) (seen : Seen) → (seen .dropped ≡ 0 → ⊥)
+      → (seenThen ss seen .first ≡ seen .first) × (seenThen ss seen .before ≡ seen .before)
+  unfolding seenOver weighedEntry
+  first-stands [] seen found = (refl, refl)
+  first-stands (s ∷ ss) seen found =
+      let falls = dropsBy bs e procedures sets s in
+      let rest = first-stands ss (next s seen) (some-more falls (seen .dropped) found) in (
+        rest .0 ∙ not-the-first falls (seen .dropped) (suc s) (seen .first) found,
+        rest .1 ∙ not-the-first falls (seen .dropped) (seen .last) (seen .before) found,
+      )
+
+  abbrev FirstAfter : ℕ → List ℕ → Seen → Type 0
+  FirstAfter last ss seen =
+      (passed : List ℕ) × (ahead : List ℕ) × (passed ++ ahead ≡ ss) × (howMany (dropsBy bs e procedures sets) passed ≡ 0)
+      × (seen .before ≡ lastFrom last passed) × (seen .first ≡ linkTo ahead)
+
+  first-after : (s : ℕ) (ss : List ℕ) (last : ℕ) (seen : Seen) → dropsBy bs e procedures sets s ≡ false
+      → FirstAfter (cond (dropsBy bs e procedures sets s) last (suc s)) ss seen → FirstAfter last (s ∷ ss) seen
+  unfolding those lastFrom
+  first-after s ss last seen q rest =
+      (s ∷ rest .0, rest .1, ap (λ (t : List ℕ). s ∷ t) (rest .2), rw q (rest .3), rw q at (rest .4), rest .5)
+
+  first-seen : (ss : List ℕ) (seen : Seen) → seen .dropped ≡ 0 → (howMany (dropsBy bs e procedures sets) ss ≡ 0 → ⊥)
+      → FirstAfter (seen .last) ss (seenThen ss seen)
+  unfolding seenOver weighedEntry those lastFrom
+  first-seen [] seen none-yet found = absurd (found refl)
+  first-seen (s ∷ ss) seen none-yet found =
+      either-way (dropsBy bs e procedures sets s)
+      (λ q.
+      let stands = first-stands ss (next s seen) (rw q (λ (z : seen .dropped + 1 ≡ 0). omega (arith, z))) in
+      let is-zero = eq-eqb (seen .dropped) 0 none-yet in
+      ([], s ∷ ss, refl, refl, stands .1 ∙ rw (q, is-zero) refl, stands .0 ∙ rw (q, is-zero) refl))
+      (λ q. first-after s ss (seen .last) (seenThen ss (next s seen)) q (first-seen ss (next s seen) (rw q none-yet) (rw q at found)))
+
   race-seen : (ss : List ℕ) (seen : Seen) → seenThen ss seen .race ≡ cond (eqb (seen .race) 0) (linkOf (first racesAt ss)) (seen .race)
   unfolding seenOver weighedEntry first linkOf
   race-seen [] seen = race-of-none (seen .race)
@@ -165,6 +209,8 @@ module _ (bs : List Bags) (x : ℕ) (e : Entry) (p : Pieces) (slots : Slots) whe
     pub omitted-told : seen .omitted ≡ isOmitted bs x e p
     pub dropped-told : seen .dropped ≡ howMany (drops bs e p) (slotsOf (p .heads) (p .links) x)
     pub last-told : seen .last ≡ lastOf (slotsLeft bs x e p)
+    pub first-told : (seen .dropped ≡ 0 → ⊥)
+        → FirstDropped (dropsBy bs e (p .procedures) (p .sets)) (slotsOf (p .heads) (p .links) x) (seen .first) (seen .before)
     pub race-told : namedAt (p .events) (p .procedures) (p .sets) (seen .race) ≡ nobodyOr (named (parallelBy bs) e (listsIn p x))
     pub race-fit : seen .race ≤ pieceSize
 
@@ -185,6 +231,17 @@ module _ (bs : List Bags) (x : ℕ) (e : Entry) (p : Pieces) (slots : Slots) whe
         dropped-told =
             ap (λ (s : Seen). s .dropped) is ∙ dropped-seen bs e procedures sets ss nothingSeen ∙ zero-more (howMany (drops bs e p) ss);
         last-told = ap (λ (s : Seen). s .last) is ∙ last-seen bs e procedures sets ss nothingSeen ∙ last-from-none (slotsLeft bs x e p);
+        first-told = λ dropping.
+            let counted = ap (λ (s : Seen). s .dropped) is ∙ dropped-seen bs e procedures sets ss nothingSeen ∙ zero-more _ in
+            let found = first-seen bs e procedures sets ss nothingSeen refl (λ z. dropping (counted ∙ z)) in
+            record {
+              passed = found .0;
+              ahead = found .1;
+              whole = found .2;
+              none-passed = found .3;
+              named = ap (λ (s : Seen). s .before) is ∙ found .4 ∙ last-from-none (found .0);
+              leads = ap (λ (s : Seen). s .first) is ∙ found .5;
+            };
         race-told = ap (namedAt (p .events) procedures sets) race ∙ race-found p (races (parallelBy bs) e) ss;
         race-fit = rw race (race-fits (p .links) (getD (p .heads) x 0) (λ s. races (parallelBy bs) e (entryAt p s)) ss (walkable .chain));
       }

@@ -2,9 +2,10 @@
 -- whole list. Assumes nothing.
 use Prim.Native.Nat.{ℕ, suc, _+_, _-_, _≤_, _<_}
 use mathlib.Core.Path.{_≡_, refl, sym, ap, _∙_}
-use mathlib.Core.Bool.{Bool, true, false, cond, not, _&&_, _||_, and-false, and-true, or-false, true≢false}
+use mathlib.Core.Bool.{Bool, true, false, cond, not, _||_, and-false, and-true, or-false, true≢false}
 use mathlib.Core.List.{List, [], _∷_}
 use native.Mathlib.Omega.{arith}
+use lib.Dec.{eqb}
 use lib.ListN.{length, getD}
 use borrow.Author.Tests.{not-true, not-false}
 use Rattle.locks.specs.Sets.{apart, within}
@@ -75,12 +76,29 @@ few-more false d v h = omega arith
 
 -- One entry more, as it is counted.
 pub stays-in : (at : ℕ) (seen : Seen)
-    → record { visits = seen .visits + 1; race = seen .race; omitted = seen .omitted; dropped = seen .dropped; last = at } ≡ into Stays at seen
+    → record {
+      visits = seen .visits + 1;
+      race = seen .race;
+      omitted = seen .omitted;
+      dropped = seen .dropped;
+      last = at;
+      first = seen .first;
+      before = seen .before;
+    } ≡ into Stays at seen
 stays-in at seen = rw (or-false (seen .omitted))
 
-pub goes-in : (at : ℕ) (seen : Seen)
-    → record { visits = seen .visits + 1; race = seen .race; omitted = seen .omitted; dropped = seen .dropped + 1; last = seen .last } ≡ into Goes at seen
-goes-in at seen = rw (or-false (seen .omitted))
+pub goes-in : (at : ℕ) (seen : Seen) {first before : ℕ} → first ≡ cond (eqb (seen .dropped) 0) at (seen .first)
+    → before ≡ cond (eqb (seen .dropped) 0) (seen .last) (seen .before)
+    → record {
+      visits = seen .visits + 1;
+      race = seen .race;
+      omitted = seen .omitted;
+      dropped = seen .dropped + 1;
+      last = seen .last;
+      first = first;
+      before = before;
+    } ≡ into Goes at seen
+goes-in at seen p q = rw (or-false (seen .omitted), p, q)
 
 -- An entry weighed is a visit.
 pub one-visit-more : (w : Weighed) (at : ℕ) (seen r : Seen) → r ≡ into w at seen → r .visits ≡ seen .visits + 1

@@ -2,7 +2,7 @@
 use Prim.Native.Nat.{ℕ, zero, suc, _+_, _-_, _≤_, _<_}
 use mathlib.Core.Path.{_≡_}
 use mathlib.Core.Bool.{Bool, true, false, cond, not, _&&_, _||_}
-use mathlib.Core.List.{List, [], _∷_}
+use mathlib.Core.List.{List, [], _∷_, _++_}
 use lib.Dec.{eqb}
 use lib.ListN.{length, getD, set}
 use Rattle.bags.specs.Bags.{Bags}
@@ -18,7 +18,7 @@ use Rattle.kept.specs.declared.Named.the-variants.{Nobody, With}
 use Rattle.kept.specs.Lists.{any, those}
 use Rattle.kept.specs.Rules.{races, dropped, omits}
 use Rattle.kept.specs.Pieces.{pieceSize, entryIn, slotsOf, slotsFreed, Chain, LaidOut, RestKept}
-use Rattle.kept.specs.Access.{parallelBy, inNoBag, placeAt, freeing}
+use Rattle.kept.specs.Access.{parallelBy, inNoBag, placeAt, freeing, linkTo}
 
 -- An entry as far as the rules look at it: its procedure and its lock set.
 abbrev pub entryOf : ℕ → ℕ → Entry
@@ -26,7 +26,7 @@ entryOf procedure locks = record { event = record { 0 = 0 }; procedure = record 
 
 -- Nothing is seen yet; one entry more, by what becomes of it or by the rules; and, at an access e, the entries in these slots one after the other.
 abbrev pub nothingSeen : Seen
-nothingSeen = record { visits = 0; race = 0; omitted = false; dropped = 0; last = 0 }
+nothingSeen = record { visits = 0; race = 0; omitted = false; dropped = 0; last = 0; first = 0; before = 0 }
 
 abbrev pub weighed : ℕ → Bool → Bool → Bool → Seen → Seen
 weighed at racing drops omits seen = record {
@@ -35,6 +35,8 @@ weighed at racing drops omits seen = record {
   omitted = seen .omitted || omits;
   dropped = cond drops (seen .dropped + 1) (seen .dropped);
   last = cond drops (seen .last) at;
+  first = cond (drops && eqb (seen .dropped) 0) at (seen .first);
+  before = cond (drops && eqb (seen .dropped) 0) (seen .last) (seen .before);
 }
 
 abbrev pub into : Weighed → ℕ → Seen → Seen
@@ -88,6 +90,21 @@ dropsBy bs e procedures sets s = dropped (parallelBy bs) e (entryOf (getD proced
 
 abbrev pub howMany : (ℕ → Bool) → List ℕ → ℕ
 howMany drops ss = length (those drops ss)
+
+-- The link that names the last of these slots, 0 if there is none.
+unfoldable pub lastOf : List ℕ → ℕ
+lastOf [] = 0
+lastOf (s ∷ []) = suc s
+lastOf (s ∷ t ∷ ss) = lastOf (t ∷ ss)
+
+-- A list begins with slots passed, none of which holds an entry that is dropped; `before` names the last of them, and `first` leads to those ahead.
+pub record FirstDropped (drops : ℕ → Bool) (ss : List ℕ) (first before : ℕ) : Type 0 where
+  pub passed : List ℕ
+  pub ahead : List ℕ
+  pub whole : passed ++ ahead ≡ ss
+  pub none-passed : howMany drops passed ≡ 0
+  pub named : before ≡ lastOf passed
+  pub leads : first ≡ linkTo ahead
 
 -- The dropped are out of the location's list, and freed.
 pub record Pruned (drops : ℕ → Bool) (x : ℕ) (heads links : List ℕ) (slots : Slots) (heads′ links′ : List ℕ) (slots′ : Slots) : Type 0 where

@@ -14,7 +14,7 @@ ghost use Rattle.kept.specs.Rules.{dropped};
 ghost use Rattle.kept.specs.Pieces.{pieceSize, pieces, slotsOf, slotsFreed, listsIn, LaidOut, Fits, Room, noneUsed, cleared};
 ghost use Rattle.kept.specs.Access.{parallelBy, codeOf, accessCode, accessed, slotsAfter, Accepted, AfterAccess};
 ghost use Rattle.kept.specs.Parts.{entryOf, nothingSeen, into, weighedEntry, seenOver, lookedOver, isFull, Walkable, namedAt};
-ghost use Rattle.kept.specs.Parts.{headsLinked, linksLinked, dropsBy, howMany, Pruned, slotFor, slotsThen};
+ghost use Rattle.kept.specs.Parts.{headsLinked, linksLinked, dropsBy, howMany, FirstDropped, Pruned, slotFor, slotsThen};
 use bags::ask::Answer;
 use bags::ask::Pairs;
 use bags::ask::ProcedureNumber;
@@ -52,13 +52,16 @@ pub enum Accessed {
 }
 
 // What the visits to a list have found so far: how many there were, the first entry that races, whether some entry leaves the access
-// out, how many are to be dropped, and the last entry that stays. An entry is named by the link to its slot, 0 for none.
+// out, how many are to be dropped, and the last entry that stays; and the first to be dropped, with the last that stays before it. An
+// entry is named by the link to its slot, 0 for none.
 struct Seen {
     visits: u32,
     race: usize,
     omitted: bool,
     dropped: u32,
     last: usize,
+    first: usize,
+    before: usize,
 }
 
 // What the visits to a whole list found, or that the procedure of some entry is in no bag.
@@ -86,6 +89,8 @@ impl Seen {
             omitted: false,
             dropped: 0,
             last: 0,
+            first: 0,
+            before: 0,
         }
     }
 
@@ -103,6 +108,8 @@ impl Seen {
                 omitted: self.omitted,
                 dropped: self.dropped,
                 last: at,
+                first: self.first,
+                before: self.before,
             },
             Weighed::Goes => Seen {
                 visits: visits,
@@ -110,6 +117,8 @@ impl Seen {
                 omitted: self.omitted,
                 dropped: self.dropped + 1,
                 last: self.last,
+                first: pick(self.dropped == 0, at, self.first),
+                before: pick(self.dropped == 0, self.last, self.before),
             },
             Weighed::Beside(races, omits) => Seen {
                 visits: visits,
@@ -117,6 +126,8 @@ impl Seen {
                 omitted: self.omitted | omits,
                 dropped: self.dropped,
                 last: at,
+                first: self.first,
+                before: self.before,
             },
         }
     }
@@ -198,8 +209,8 @@ pub fn clear_sets(piece: &mut [u64])
     }
 }
 
-// An access to a location, the bags being as they stand before it. First the list is only read; then come the refusals; and only
-// then do the pieces change.
+// An access to a location, the bags being as they stand before it. The list is only read until the refusals are ruled out; then the
+// pieces change.
 pub fn access(
     heads: &mut [u32],
     links: &mut [u32],
@@ -401,6 +412,8 @@ fn change(
         entry,
         slots,
         seen.dropped,
+        seen.first,
+        seen.before,
         pairs,
         starts,
         joins,
@@ -548,7 +561,8 @@ fn drops(
     !says_parallel(pairs.ask(starts, joins, procedure))
 }
 
-// The entries to be dropped, so many, are unlinked and their slots freed.
+// The entries to be dropped, so many, are unlinked and their slots freed. The link `first` leads to the first of them, and `before` names
+// the entry before it.
 fn prune(
     heads: &mut [u32],
     links: &mut [u32],
@@ -558,6 +572,8 @@ fn prune(
     entry: Entry,
     slots: Slots,
     count: u32,
+    first: usize,
+    before: usize,
     pairs: Pairs,
     starts: &[u32],
     joins: &[u32],
@@ -571,17 +587,23 @@ fn prune(
     requires { ⌜ LaidOut (now heads) (now links) slots (slotsOf (now heads) (now links)) (slotsFreed (now links) slots) ⌝ }
     requires { ⌜ count ≡ howMany (dropsBy (bagsIn (now starts) (now joins) pairs) entry (now procedures) (now sets))
         (slotsOf (now heads) (now links) location) ⌝ }
+    requires { ⌜ ((count ≡ 0 → ⊥) → FirstDropped (dropsBy (bagsIn (now starts) (now joins) pairs) entry (now procedures) (now sets))
+        (slotsOf (now heads) (now links) location) first before) ⌝ }
     ensures { λ r.
         ⌜ Pruned (dropsBy (bagsIn (now (starts .entry)) (now (joins .entry)) pairs) entry (now (procedures .entry)) (now (sets .entry))) location
         (now (heads .entry)) (now (links .entry)) slots (now (heads .exit)) (now (links .exit)) r ⌝ }
 {
+    if count == 0 {
+        return slots;
+    }
     let mut freed = slots.freed;
-    let mut last = 0;
-    let mut at = heads[location];
+    let mut last = before;
+    let mut at = first;
     let mut left = count;
     while left != 0 {
-        let slot = at as usize - 1;
+        let slot = at - 1;
         let next = links[slot];
+        let onward = wide(next);
         if drops(
             ProcedureNumber(procedures[slot]),
             sets[slot],
@@ -592,12 +614,12 @@ fn prune(
         ) {
             relink(heads, links, location, last, next);
             links[slot] = freed;
-            freed = at;
+            freed = at as u32;
             left -= 1;
         } else {
-            last = at as usize;
+            last = at;
         }
-        at = next;
+        at = onward;
     }
     Slots {
         freed: freed,

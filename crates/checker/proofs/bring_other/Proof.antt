@@ -5,6 +5,7 @@ use borrow.Author.Needs.{needs}
 use borrow.Author.Tests.{not-true, not-false}
 use Rattle.trace.specs.Kinds.{isAccess}
 use Rattle.locks.specs.Sets.{isEmpty}
+use Rattle.checker.proofs.AccessKinds.{unlawful, none-held, some-held}
 use Rattle.checker.proofs.Bringing.{lock-goes-on, lock-refused, unlock-goes-on, unlock-refused, holding-refused}
 use Rattle.checker.proofs.Bringing.{spawn-goes-on, spawn-refused, return-goes-on, sync-goes-on}
 use Rattle.checker.proofs.bring_other.Statement.{statement}
@@ -19,10 +20,13 @@ no-access c = start c .pre .1 .1
 
 -- It is neither a lock nor an unlock, and no lock is held.
 abbrev given : tie.Else5 → tie.After-pairs
-given c = c .before .before .before .before
+given c = c .before .before .before .before .before
 
-none-held : (c : tie.Else5) → isEmpty (start (given c) .args .state .held .bits) ≡ true
-none-held c = sym (c .before .is-empty .ensures) ∙ not-false _ (c .if5 .left)
+free : (c : tie.Else5) → isEmpty (start (given c) .args .state .held .bits) ≡ true
+free c =
+    let table = c .before .before in
+    none-held (table .lawful-holding .ensures) (c .before .is-empty .ensures)
+    (unlawful _ (table .before .before .if1 .left) (table .before .if3 .left) (no-access (given c))) (c .if5 .left)
 
 has-requires : tie.Need-has-requires
 has-requires c κs = search needs
@@ -72,14 +76,17 @@ returns-4 c =
     (unlock-goes-on trace report p _ _ _ _ _ n _ (test .if3 .taken) (no-access (test .before .before))
     (sym (tested .has2 .ensures) ∙ not-false _ (c .before .before .if4 .left)) (c .before .release .ensures))
 
+lawful-holding-requires : tie.Need-lawful-holding-requires
+lawful-holding-requires c κs = search needs
+
 is-empty-requires : tie.Need-is-empty-requires
 is-empty-requires c κs = search needs
 
 returns-5 : tie.Need-returns-5
 returns-5 c =
-    let test = c .before .before in
+    let test = c .before .before .before in
     λ trace report p n. holding-refused trace report p _ _ _ _ _ n (test .before .if1 .left) (test .if3 .left) (no-access (test .before .before))
-    (sym (c .before .is-empty .ensures) ∙ not-true _ (c .if5 .taken))
+    (some-held (c .before .before .lawful-holding .result) (c .before .is-empty .ensures) (c .if5 .taken))
 
 spawn-requires : tie.Need-spawn-requires
 spawn-requires c κs = search needs
@@ -104,7 +111,7 @@ returns-6 c =
     let spawned = c .before .before .before .before .before .before .before .before in
     let test = spawned .before .before .before in
     λ trace report p n. rw (c .after-other3 .ensures)
-    (spawn-goes-on trace report p _ _ _ _ _ n _ _ _ _ (test .if6 .taken) (no-access (given (test .before))) (none-held (test .before))
+    (spawn-goes-on trace report p _ _ _ _ _ n _ _ _ _ (test .if6 .taken) (no-access (given (test .before))) (free (test .before))
     (c .before .before .then .given .1) (spawned .spawn .ensures .1 .1 .1 .1) (search needs) (search needs))
 
 same-length-3 : tie.Need-same-length-3
@@ -117,7 +124,7 @@ returns-7 : tie.Need-returns-7
 returns-7 c =
     let spawned = c .before .before .before .before .before .before in
     let test = spawned .before .before .before in
-    λ trace report p n. spawn-refused trace report p _ _ _ _ _ n _ _ _ (test .if6 .taken) (no-access (given (test .before))) (none-held (test .before))
+    λ trace report p n. spawn-refused trace report p _ _ _ _ _ n _ _ _ (test .if6 .taken) (no-access (given (test .before))) (free (test .before))
     (c .enum-told .given .1) (spawned .spawn .ensures .1 .1 .1 .1)
 
 returns-requires : tie.Need-returns-requires
@@ -137,7 +144,7 @@ returns-8 c =
     let test = c .before .before .before .before in
     let empty = test .before .before in
     λ trace report p n. rw (c .after-other4 .ensures)
-    (return-goes-on trace report p _ _ _ _ _ n _ (test .if7 .taken) (no-access (given empty)) (none-held empty)
+    (return-goes-on trace report p _ _ _ _ _ n _ (test .if7 .taken) (no-access (given empty)) (free empty)
     (c .before .returns .ensures .1 (start (given empty) .pre .0)))
 
 sync-requires : tie.Need-sync-requires
@@ -155,8 +162,8 @@ returns-9 c =
     let test = synced .before .before in
     let empty = test .before .before in
     λ trace report p n. rw (c .after-other5 .ensures)
-    (sync-goes-on trace report p _ _ _ _ _ n _ _ (test .before .if6 .left) (test .if7 .left) (empty .before .before .before .if1 .left)
-    (empty .before .before .if3 .left) (no-access (given empty)) (none-held empty) (synced .sync .ensures .1 .1 _ (start (given empty) .pre .0))
+    (sync-goes-on trace report p _ _ _ _ _ n _ _ (test .before .if6 .left) (test .if7 .left) (empty .before .before .before .before .if1 .left)
+    (empty .before .before .before .if3 .left) (no-access (given empty)) (free empty) (synced .sync .ensures .1 .1 _ (start (given empty) .pre .0))
     (search needs))
 
 pub bring-other-spec : {M : Type 1} → statement M
@@ -174,6 +181,7 @@ bring-other-spec =
     release-requires
     after-other-requires-2
     returns-4
+    lawful-holding-requires
     is-empty-requires
     returns-5
     spawn-requires

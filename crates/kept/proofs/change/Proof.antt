@@ -49,7 +49,7 @@ prune-requires c κs =
                 held .fits .sets-fit,
                 (
                   held .laid-out,
-                  dropped-counted _ _ _ _ _ _ (told c),
+                  (dropped-counted _ _ _ _ _ _ (told c), told c .first-told),
                 ),
               ),
             ),

@@ -18,8 +18,8 @@ pub fn vectors(run: &mut Run, samples: &Samples) -> Result<(), String> {
     Ok(())
 }
 
-/// Before a protected page, so that a byte too many cannot be read, and with
-/// marks after it, so that a byte too many would show.
+/// Right before a protected page, so that a byte too many cannot be read; those
+/// of fewer than two bytes also after one, with marks behind them.
 pub fn every_short_one(run: &mut Run, _: &Samples) -> Result<(), String> {
     let of_two = (0..=u16::MAX).map(|both| both.to_le_bytes().to_vec());
     let of_one = (0..=u8::MAX).map(|byte| vec![byte]);
