@@ -33,12 +33,6 @@ pub enum Answer {
 // So many places are tried one by one.
 const NEAR: usize = 8;
 
-// Two places of the pairs, the one that is sought at the lower or between them.
-struct Bracket {
-    low: usize,
-    high: usize,
-}
-
 impl Pairs {
     // Is this procedure in series or in parallel with what runs now, or in no bag?
     pub fn ask(self, starts: &[u32], joins: &[u32], procedure: ProcedureNumber) -> Answer
@@ -99,22 +93,18 @@ fn place_of(starts: &[u32], top: usize, p: u32) -> usize
         }
         at -= 1;
     }
-    let around = Bracket {
-        low: 0,
-        high: at + 1,
-    };
-    halve(starts, top, around, p)
+    halve(starts, top, at + 1, p)
 }
 
-// The place, found by halves.
-fn halve(starts: &[u32], top: usize, around: Bracket, p: u32) -> usize
+// The place, which lies below another, found by halves.
+fn halve(starts: &[u32], top: usize, above: usize, p: u32) -> usize
     requires { ⌜ top < length (now starts) ⌝ }
     requires { ⌜ top < pieceSize ⌝ }
-    requires { ⌜ Bracketed (now starts) top p (around .low) (around .high) ⌝ }
+    requires { ⌜ Bracketed (now starts) top p 0 above ⌝ }
     ensures { λ r. ⌜ Found (now (starts .entry)) top p r ⌝ }
 {
-    let mut low = around.low;
-    let mut high = around.high;
+    let mut low = 0;
+    let mut high = above;
     while 1 < high - low {
         let middle = low + (high - low) / 2;
         if starts[middle] <= p {

@@ -2,7 +2,7 @@
 -- whole list. Assumes nothing.
 use Prim.Native.Nat.{ℕ, suc, _+_, _-_, _≤_, _<_}
 use mathlib.Core.Path.{_≡_, refl, sym, ap, _∙_}
-use mathlib.Core.Bool.{Bool, true, false, cond, not, _||_, and-false, and-true, or-false, true≢false}
+use mathlib.Core.Bool.{Bool, true, false, cond, not, _||_, and-false, or-false, true≢false}
 use mathlib.Core.List.{List, [], _∷_}
 use native.Mathlib.Omega.{arith}
 use lib.Dec.{eqb}
@@ -21,7 +21,7 @@ use Rattle.kept.specs.Lists.{any}
 use Rattle.kept.specs.Rules.{races, dropped, omits}
 use Rattle.kept.specs.Pieces.{pieceSize, Chain}
 use Rattle.kept.specs.Access.{parallelBy}
-use Rattle.kept.specs.Parts.{entryOf, nothingSeen, into, weighedEntry, seenOver, someStray, lookedOver}
+use Rattle.kept.specs.Parts.{entryOf, nothingSeen, into, isDropped, weighedEntry, seenOver, someStray, lookedOver}
 
 -- ---- one entry
 
@@ -56,16 +56,19 @@ module _ (bs : List Bags) (e : Entry) (at procedure locks : ℕ) (seen : Seen) {
     unfolding weighedEntry races dropped omits
     stays-asked not-so contains = simp (sym asked ∙ sym said ∙ not-so, sym contains-is ∙ contains)
 
--- An entry whose set does not contain the set of e is not dropped; of others the bags' answer tells.
-module _ (bs : List Bags) (e : Entry) (procedure locks : ℕ) {c : Bool} where
-  pub not-dropped-unasked : c ≡ within (e .locks) locks → not c ≡ true → false ≡ dropped (parallelBy bs) e (entryOf procedure locks)
-  unfolding dropped
-  not-dropped-unasked p q = simp (sym p, not-true c q, and-false)
-
-  pub dropped-asked : (answer : Answer) {parallel : Bool} → c ≡ within (e .locks) locks → not c ≡ false → saysParallel answer ≡ inPBag procedure bs
-      → parallel ≡ saysParallel answer → not parallel ≡ dropped (parallelBy bs) e (entryOf procedure locks)
-  unfolding dropped
-  dropped-asked answer p q told par = simp (par ∙ told, sym p, not-false c q, and-true)
+-- So what becomes of an entry says whether the rules drop it.
+pub dropped-told : (bs : List Bags) (e : Entry) (k : Entry) (v : Weighed) → ((at : ℕ) (seen : Seen) → into v at seen ≡ weighedEntry bs e at k seen)
+    → isDropped v ≡ dropped (parallelBy bs) e k
+unfolding weighedEntry
+dropped-told bs e k v told = same v (dropped (parallelBy bs) e k) (ap (λ (s : Seen). s .dropped) (told 0 nothingSeen))
+  where
+    same : (v : Weighed) (b : Bool) → into v 0 nothingSeen .dropped ≡ cond b 1 0 → isDropped v ≡ b
+    same Stays true q = absurd (omega (arith, q))
+    same Stays false q = refl
+    same Goes true q = refl
+    same Goes false q = absurd (omega (arith, q))
+    same (Beside racing omits) true q = absurd (omega (arith, q))
+    same (Beside racing omits) false q = refl
 
 -- ---- the walk
 

@@ -44,6 +44,11 @@ into Stays at = weighed at false false false
 into Goes at = weighed at false true false
 into (Beside racing omits) at = weighed at racing false omits
 
+abbrev pub isDropped : Weighed → Bool
+isDropped Stays = false
+isDropped Goes = true
+isDropped (Beside racing omits) = false
+
 module _ (bs : List Bags) (e : Entry) where
   unfoldable pub weighedEntry : ℕ → Entry → Seen → Seen
   weighedEntry at k = weighed at (races (parallelBy bs) e k) (dropped (parallelBy bs) e k) (omits (parallelBy bs) e k)

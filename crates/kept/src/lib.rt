@@ -13,7 +13,7 @@ ghost use Rattle.kept.specs.declared.Seen.{Seen};
 ghost use Rattle.kept.specs.Rules.{dropped};
 ghost use Rattle.kept.specs.Pieces.{pieceSize, pieces, slotsOf, slotsFreed, listsIn, LaidOut, Fits, Room, noneUsed, cleared};
 ghost use Rattle.kept.specs.Access.{parallelBy, codeOf, accessCode, accessed, slotsAfter, Accepted, AfterAccess};
-ghost use Rattle.kept.specs.Parts.{entryOf, nothingSeen, into, weighedEntry, seenOver, lookedOver, isFull, Walkable, namedAt};
+ghost use Rattle.kept.specs.Parts.{entryOf, nothingSeen, into, isDropped, weighedEntry, seenOver, lookedOver, isFull, Walkable, namedAt};
 ghost use Rattle.kept.specs.Parts.{headsLinked, linksLinked, dropsBy, howMany, FirstDropped, Pruned, slotFor, slotsThen};
 use bags::ask::Answer;
 use bags::ask::Pairs;
@@ -542,6 +542,17 @@ fn relink(heads: &mut [u32], links: &mut [u32], location: usize, last: usize, to
     }
 }
 
+// Is it dropped?
+fn goes(entry: Weighed) -> bool
+    ensures { λ r. ⌜ r ≡ isDropped entry ⌝ }
+{
+    match entry {
+        Weighed::Stays => false,
+        Weighed::Goes => true,
+        Weighed::Beside(_, _) => false,
+    }
+}
+
 // Is the entry of that procedure, with those locks, dropped?
 fn drops(
     procedure: ProcedureNumber,
@@ -554,11 +565,7 @@ fn drops(
     requires { ⌜ BagsRoom (now starts) (now joins) pairs ⌝ }
     ensures { λ r. ⌜ r ≡ dropped (parallelBy (bagsIn (now (starts .entry)) (now (joins .entry)) pairs)) entry (entryOf (procedure .0) locks) ⌝ }
 {
-    let ours = entry.locks;
-    if !within(ours, locks) {
-        return false;
-    }
-    !says_parallel(pairs.ask(starts, joins, procedure))
+    goes(weigh(procedure, locks, entry, pairs, starts, joins))
 }
 
 // The entries to be dropped, so many, are unlinked and their slots freed. The link `first` leads to the first of them, and `before` names

@@ -1,26 +1,18 @@
--- An entry goes if its set contains ours and the bags say that it precedes: the two laws of `Visits`. Assumes nothing.
+-- An entry is dropped if that becomes of it. Assumes nothing.
+use mathlib.Core.Path.{_∙_}
 use borrow.Author.Needs.{needs}
-use Rattle.kept.proofs.Visits.{not-dropped-unasked, dropped-asked}
+use Rattle.kept.proofs.Visits.{dropped-told}
 use Rattle.kept.proofs.drops.Statement.{statement}
 use Rattle.kept.proofs.drops.Tie as tie
 
-within-requires : tie.Need-within-requires
-within-requires c κs = search needs
+weigh-requires : tie.Need-weigh-requires
+weigh-requires c κs = search needs
+
+goes-requires : tie.Need-goes-requires
+goes-requires c κs = search needs
 
 returns : tie.Need-returns
-returns c = not-dropped-unasked _ _ _ _ (c .before .within .ensures) (c .if1 .taken)
-
-ask-requires : tie.Need-ask-requires
-ask-requires c κs = search needs
-
-says-parallel-requires : tie.Need-says-parallel-requires
-says-parallel-requires c κs = search needs
-
-returns-2 : tie.Need-returns-2
-returns-2 c =
-    let asked = c .before .ask in
-    dropped-asked _ _ _ _ (asked .result) (c .before .before .before .within .ensures) (c .before .before .if1 .left) (asked .ensures .1 .0) (c .says-parallel .ensures)
+returns c = c .goes .ensures ∙ dropped-told _ _ _ (c .before .weigh .result) (c .before .weigh .ensures)
 
 pub drops-spec : {M : Type 1} → statement M
-drops-spec =
-    tie.close (tie.spec within-requires returns ask-requires says-parallel-requires returns-2)
+drops-spec = tie.close (tie.spec weigh-requires goes-requires returns)

@@ -8,10 +8,10 @@ use Rattle.bags.proofs.ask.halve.Statement.{statement}
 use Rattle.bags.proofs.ask.halve.Tie as tie
 
 abbrev Inv-loop : tie.InvT-loop
-Inv-loop starts top p low₀ high₀ low high = Bracketed starts top p low high
+Inv-loop starts top above p low₀ high₀ low high = Bracketed starts top p low high
 
 abbrev μ-loop : tie.MeasureT-loop
-μ-loop starts top p low₀ high₀ low high = high - low
+μ-loop starts top above p low₀ high₀ low high = high - low
 
 loop-holds : tie.Need-loop-holds Inv-loop μ-loop
 loop-holds c = search needs

@@ -44,8 +44,8 @@ loop-less c = omega arith
 loop-again : tie.Need-loop-again Inv-loop μ-loop
 loop-again c = one-down _ _ _ _ (search needs) (omega arith) (search needs)
 
-add-t8 : tie.Need-add-t8 Inv-loop μ-loop
-add-t8 c = omega arith
+add-halve : tie.Need-add-halve Inv-loop μ-loop
+add-halve c = omega arith
 
 halve-requires : tie.Need-halve-requires Inv-loop μ-loop
 halve-requires c κs = (search needs, (search needs, left-below _ _ _ _ (search needs) (search needs)))
@@ -70,6 +70,6 @@ place-of-spec =
     sub-at
     loop-less
     loop-again
-    add-t8
+    add-halve
     halve-requires
     returns-2)
