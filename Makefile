@@ -1,5 +1,5 @@
-# Builds the library and the program over it, installs them, and runs what tests and measures them. Everything made is
-# under target/.
+# Builds the library and the program over it, installs them, and runs the worked example and what tests and measures
+# them. Everything made is under target/.
 PREFIX ?= /usr/local
 CFLAGS ?= -O2 -Wall -Wextra
 INSTALL ?= install
@@ -7,12 +7,13 @@ INSTALL ?= install
 version := 0.1.0
 library := target/staticlib/libzobukwami.a
 program := target/bin/check_file
+example := target/bin/short_rows
 documents := share/doc/zobukwami
 crates := crates.txt $(shell find crates -name '*.rt' -o -name '*.antt')
 prefix = $(abspath $(PREFIX))
 to = $(DESTDIR)$(prefix)
 
-.PHONY: all install uninstall test bench fuzz clean
+.PHONY: all example install uninstall test bench fuzz clean
 .DELETE_ON_ERROR:
 
 all: $(library) $(program)
@@ -26,9 +27,14 @@ target/bin/racecheck: $(crates) | $(library)
 	rt check racecheck
 	touch -c $@
 
-$(program): examples/check_file.c include/zobukwami.h $(library)
+$(program) $(example): target/bin/%: examples/%.c include/zobukwami.h $(library)
 	mkdir -p $(@D)
 	$(CC) -std=c11 -Iinclude $(CPPFLAGS) $(CFLAGS) $(LDFLAGS) -o $@ $< $(library)
+
+$(example): examples/recorder.h
+
+example: $(example)
+	@$(example)
 
 install: all
 	sed 's|@PREFIX@|$(prefix)|; s|@VERSION@|$(version)|' zobukwami.pc.in >target/zobukwami.pc

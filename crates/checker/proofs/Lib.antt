@@ -12,6 +12,7 @@ pub mod Stepping
 pub mod Numbers
 pub mod Loop
 pub mod ContractMet
+pub mod Laws
 pub mod NoTwoOutcomes
 pub mod Table
 pub mod Impostors

@@ -98,7 +98,7 @@ accepted-means trace k e = elim (decLt (place trace k) (length trace)) [
 pub place-grows : (trace : List ℕ) (k : ℕ) → verdict trace k ≡ goes-on → place trace k < place trace (suc k)
 place-grows trace k e = found trace (place trace k) (events trace k) (place trace (suc k)) (accepted-means trace k e .read) .after
 
-first-place : (trace : List ℕ) → place trace zero ≡ 0
+pub first-place : (trace : List ℕ) → place trace zero ≡ 0
 unfolding place
 first-place trace = refl
 

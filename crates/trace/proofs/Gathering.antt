@@ -46,7 +46,7 @@ module _ (bytes : List ℕ) (at i : ℕ) (led : i ≤ followed bytes) where
         let e : followed bytes ≡ i = followed-last bytes i led last in
         simp (e, none, le-ltb (length bytes) (suc i) there, le-ltb mostGroups (suc i) few, lt-ltb 1 (suc i) (omega arith))
 
-    whole : (getD bytes i 0 ≡ 0 → i ≡ 0) → numberOf bytes at ≡ Value (value (take (suc i) bytes)) (at + suc i)
+    pub whole : (getD bytes i 0 ≡ 0 → i ≡ 0) → numberOf bytes at ≡ Value (value (take (suc i) bytes)) (at + suc i)
     unfolding numberOf
     whole only =
         let e : followed bytes ≡ i = followed-last bytes i led last in

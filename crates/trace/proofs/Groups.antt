@@ -8,7 +8,7 @@ use native.Mathlib.Omega.{arith}
 use native.Mathlib.Nat.{mul-comm, mul-assoc, pow-succ', le-of-suc-le-suc, mul-le-mul-left, pow-le-pow-right}
 use lib.Dec.{leb, lit<}
 use lib.ListN.{length, getD, take}
-use borrow.Author.Tests.{le-leb, lt-leb}
+use borrow.Author.Tests.{le-leb, lt-leb, leb-false}
 use Rattle.trace.specs.Numbers.{value, followed}
 
 -- ---- how many groups are followed by another
@@ -44,6 +44,17 @@ followed-last (byte ∷ bytes) (suc i) h low = go (leb 128 byte) h (λ k. follow
     go : (b : Bool) → suc i ≤ cond b (suc (followed bytes)) 0 → (i ≤ followed bytes → followed bytes ≡ i) → cond b (suc (followed bytes)) 0 ≡ suc i
     go true k rest = ap suc (rest (le-of-suc-le-suc k))
     go false k rest = omega arith
+
+-- so the first group that no other follows has no top bit, where it stands within the bytes
+pub followed-ends : (bytes : List ℕ) → followed bytes < length bytes → getD bytes (followed bytes) 0 < 128
+unfolding followed
+followed-ends [] inside = absurd (omega arith)
+followed-ends (byte ∷ bytes) inside = go (leb 128 byte) refl inside (followed-ends bytes)
+  where
+    go : (b : Bool) → leb 128 byte ≡ b → cond b (suc (followed bytes)) 0 < suc (length bytes)
+        → (followed bytes < length bytes → getD bytes (followed bytes) 0 < 128) → getD (byte ∷ bytes) (cond b (suc (followed bytes)) 0) 0 < 128
+    go true e inside rest = rest (le-of-suc-le-suc inside)
+    go false e inside rest = leb-false 128 byte e
 
 -- ---- what the first groups are worth
 

@@ -1,7 +1,7 @@
--- What the layers above may say of a reading: where an event was found, it ends after its place and within the trace, and the table allows it; where
--- there was none, the place is as it was. By the cases of the definitions. Assumes nothing.
-use Prim.Native.Nat.{ℕ, zero, suc, _+_, _-_, _%_, _/_, _≤_, _<_}
-use mathlib.Core.Path.{_≡_, refl, subst}
+-- What the layers above may say of a reading: where an event was found, its number stands there, it ends after its place and within the trace, and the
+-- table allows it; where there was none, the place is as it was. By the cases of the definitions. Assumes nothing.
+use Prim.Native.Nat.{ℕ, zero, suc, _+_, _-_, _*_, _%_, _/_, _≤_, _<_}
+use mathlib.Core.Path.{_≡_, refl, subst, ap₂, _∙_}
 use mathlib.Core.Bool.{Bool, true, false, cond, not, _&&_, _||_, and-eq-true-iff}
 use mathlib.Core.List.{List, [], _∷_}
 use native.Mathlib.Omega.{arith}
@@ -66,6 +66,7 @@ whole bytes at number next e = go (endInside bytes) (tooLong bytes) refl refl e
 -- ---- an event that was found
 
 pub record FoundAt (trace : List ℕ) (at : ℕ) (e : Event) (next : ℕ) : Type 0 where
+  pub number : numberAt trace at ≡ Value (8 * e .operand + e .kind) next
   pub after : at < next
   pub near : next ≤ at + mostGroups
   pub within : next ≤ length trace
@@ -76,17 +77,20 @@ pub found : (trace : List ℕ) (at : ℕ) (e : Event) (next : ℕ) → readingAt
 unfolding readingAt judged numberAt
 found trace at e next r = go (numberAt trace at) refl r
   where
-    judge : (number after : ℕ) → Whole (drop at trace) at number after → (kind large : Bool) → eqb (number % 8) reserved ≡ kind
+    judge : (number after : ℕ) → numberAt trace at ≡ Value number after → Whole (drop at trace) at number after → (kind large : Bool)
+        → eqb (number % 8) reserved ≡ kind
         → ltb (largestOperand (eventOf number)) (number / 8) ≡ large
         → cond kind (Refused Reserved at) (cond large (Refused OperandLarge at) (Found (eventOf number) after)) ≡ Found e next
         → FoundAt trace at e next
-    judge number after w true large p q r = let z : _≡_ {A = ℕ} 0 1 = cc in omega arith
-    judge number after w false true p q r = let z : _≡_ {A = ℕ} 0 1 = cc in omega arith
-    judge number after w false false p q r =
+    judge number after is w true large p q r = let z : _≡_ {A = ℕ} 0 1 = cc in absurd (omega arith)
+    judge number after is w false true p q r = let z : _≡_ {A = ℕ} 0 1 = cc in absurd (omega arith)
+    judge number after is w false false p q r =
+        let back : number ≡ 8 * (number / 8) + number % 8 = omega arith in
         let same : eventOf number ≡ e = cc in
         let place : after ≡ next = cc in
         let room : size (drop at trace) ≤ length trace - at = rw length-drop at (w .inside) in
         record {
+          number = is ∙ ap₂ Value (subst (λ (x : Event). number ≡ 8 * x .operand + x .kind) same back) place;
           after = omega arith;
           near = omega arith;
           within = omega arith;
@@ -95,9 +99,9 @@ found trace at e next r = go (numberAt trace at) refl r
         }
 
     go : (n : Number) → numberAt trace at ≡ n → judged at n ≡ Found e next → FoundAt trace at e next
-    go (Broken why) is r = let z : _≡_ {A = ℕ} 0 1 = cc in omega arith
+    go (Broken why) is r = let z : _≡_ {A = ℕ} 0 1 = cc in absurd (omega arith)
     go (Value number after) is r =
-        judge number after (whole (drop at trace) at number after is) (eqb (number % 8) reserved) (ltb (largestOperand (eventOf number)) (number / 8)) refl refl r
+        judge number after is (whole (drop at trace) at number after is) (eqb (number % 8) reserved) (ltb (largestOperand (eventOf number)) (number / 8)) refl refl r
 
 -- a refusal leaves the place as it was
 pub refused : (trace : List ℕ) (at : ℕ) (why : Refusal) (place : ℕ) → readingAt trace at ≡ Refused why place → place ≡ at
@@ -130,6 +134,12 @@ every-row test (row ∷ rows) e none (suc k) = every-row test rows (and-eq-true-
 -- every access has a location below 4,096
 small : List ℕ → Bool
 small row = not (eqb (getD row 2 0) 1) || ltb (getD row 0 0) 4096
+
+-- and no operand that the table allows is larger
+pub operand-small : (e : Event) → e .operand ≤ largestOperand e → e .operand < 4096
+unfolding entry holds
+operand-small e within =
+    omega (arith, ltb-true (largestOperand e) 4096 (every-row (λ (row : List ℕ). ltb (getD row 0 0) 4096) kinds refl refl (e .kind)))
 
 pub location-small : (e : Event) → isAccess e ≡ true → e .operand ≤ largestOperand e → location e < 4096
 unfolding entry holds small

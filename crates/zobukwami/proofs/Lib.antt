@@ -1,1 +1,2 @@
 pub mod SameContract
+pub mod AcceptedAgain

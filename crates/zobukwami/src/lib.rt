@@ -1,10 +1,15 @@
-// The checker under the name by which C calls it.
+// The checker and the writer under the names by which C calls them, with the same contracts.
+ghost use mathlib.Core.List.{_∷_, []};
 ghost use Rattle.checker.specs.Call.{room, lent, left};
 ghost use Rattle.checker.specs.Contract.{Contract};
+ghost use Rattle.writer.specs.Lists.{eventsIn};
+ghost use Rattle.writer.specs.Contract.{Wrote};
 use checker::Answer;
 use checker::check;
+use writer::Written;
+use writer::write_event;
+use writer::write_events;
 
-// The call, with the same contract.
 #[no_mangle]
 pub extern "C" fn zobukwami_check(
     trace: &[u8],
@@ -37,4 +42,24 @@ pub extern "C" fn zobukwami_check(
         starts,
         joins,
     )
+}
+
+#[no_mangle]
+pub extern "C" fn zobukwami_write_event(
+    buffer: &mut [u8],
+    at: usize,
+    kind: u32,
+    operand: u32,
+) -> Written
+    ensures { λ r.
+        ⌜ Wrote (record { kind = kind; operand = operand } ∷ []) (now (buffer .entry)) at r (now (buffer .exit)) ⌝ }
+{
+    write_event(buffer, at, kind, operand)
+}
+
+#[no_mangle]
+pub extern "C" fn zobukwami_write_events(buffer: &mut [u8], at: usize, events: &[u32]) -> Written
+    ensures { λ r. ⌜ Wrote (eventsIn (now (events .entry))) (now (buffer .entry)) at r (now (buffer .exit)) ⌝ }
+{
+    write_events(buffer, at, events)
 }

@@ -1,0 +1,6 @@
+pub mod Examples
+pub mod Codes
+pub mod Groups
+pub mod Lists
+pub mod RoundTrip
+pub mod NoTwoOutcomes
