@@ -4,7 +4,7 @@ PREFIX ?= /usr/local
 CFLAGS ?= -O2 -Wall -Wextra
 INSTALL ?= install
 
-version := 0.1.0
+version := 0.2.0
 library := target/staticlib/libzobukwami.a
 program := target/bin/check_file
 example := target/bin/short_rows
