@@ -6,12 +6,11 @@
 #include <stdio.h>
 #include <stdlib.h>
 #include <string.h>
-#include <time.h>
-#include <valgrind/callgrind.h>
 
 #include "workloads.h"
 #include "zobukwami.h"
 
+typedef struct trace work;
 typedef __typeof__(zobukwami_check) call;
 
 call runs_gcc, runs_clang, forest_gcc, forest_clang;
@@ -39,7 +38,7 @@ static struct lent {
     uint64_t sets[LENT];
 } lent;
 
-static __attribute__((noinline)) zobukwami_answer run(const struct variant *v, const struct trace *t)
+static __attribute__((noinline)) zobukwami_answer run(const struct variant *v, const work *t)
 {
     uint32_t(*p)[LENT] = lent.pieces;
     return v->check(
@@ -88,53 +87,7 @@ static zobukwami_answer agree(const struct workload *w, const struct trace *t)
     return first;
 }
 
-/* Processor time, so that what else runs on the machine matters less. */
-static double now(void)
-{
-    struct timespec t;
-    clock_gettime(CLOCK_PROCESS_CPUTIME_ID, &t);
-    return (double)t.tv_sec * 1e9 + (double)t.tv_nsec;
-}
-
-static double timed(const struct variant *v, const struct trace *t, uint32_t calls)
-{
-    double from = now();
-    for (uint32_t i = 0; i < calls; i++)
-        run(v, t);
-    return (now() - from) / calls;
-}
-
-/* The least time of a call of each, the variants taking turns for about a second. */
-static void time_row(const struct trace *t)
-{
-    double least[VARIANTS];
-    uint32_t calls = 1;
-    while (timed(variants, t, calls) * calls < 1e6)
-        calls *= 2;
-    double until = now() + 1e9;
-    for (int turn = 0; turn < 3 || now() < until; turn++) {
-        for (size_t i = 0; i < VARIANTS; i++) {
-            double taken = timed(&variants[i], t, calls);
-            if (turn == 0 || taken < least[i])
-                least[i] = taken;
-        }
-    }
-    for (size_t i = 0; i < VARIANTS; i++)
-        printf(" %.1f", least[i]);
-}
-
-static void count_row(const struct workload *w, const struct trace *t, uint32_t calls, size_t counted)
-{
-    for (size_t i = 0; i < counted; i++) {
-        char name[64];
-        snprintf(name, sizeof name, "%s %s", w->name, variants[i].name);
-        CALLGRIND_START_INSTRUMENTATION;
-        for (uint32_t j = 0; j < calls; j++)
-            run(&variants[i], t);
-        CALLGRIND_STOP_INSTRUMENTATION;
-        CALLGRIND_DUMP_STATS_AT(name);
-    }
-}
+#include "measure.h"
 
 int main(int count, char **words)
 {
@@ -160,7 +113,7 @@ int main(int count, char **words)
         zobukwami_answer a = agree(w, &t);
         printf("%s %zu %u %llu %u", w->name, t.length, a.events, (unsigned long long)a.visits, calls);
         if (counts)
-            count_row(w, &t, calls, grows ? 1 : VARIANTS);
+            count_row(w->name, &t, calls, grows ? 1 : VARIANTS);
         else if (!grows)
             time_row(&t);
         printf("\n");

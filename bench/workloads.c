@@ -1,5 +1,5 @@
-/* Each trace is a whole run: the locks are let go, main returns, and the limits of 4,096 procedures and 4,096 kept
-   entries are not reached. `below` gives the same random numbers each time. */
+/* Each trace but the one of three-byte numbers is a whole run: the locks are let go, main returns, and the limits of
+   4,096 procedures and 4,096 kept entries are not reached. `below` gives the same random numbers each time. */
 #include "workloads.h"
 
 #include <stdio.h>
@@ -21,8 +21,8 @@ static void put(struct trace *t, uint32_t kind, uint32_t operand)
     } while (number != 0);
 }
 
-/* A random number below n (Marsaglia's xorshift). */
-static uint32_t below(struct trace *t, uint32_t n)
+/* Marsaglia's xorshift. */
+uint32_t below(struct trace *t, uint32_t n)
 {
     t->state ^= t->state << 13;
     t->state ^= t->state >> 7;
@@ -324,6 +324,31 @@ static void at_depth(struct trace *t, uint32_t depth, uint32_t accesses)
         put(t, RETURN, 0);
 }
 
+/* Numbers of one byte alone: of 16 locks and 16 locations. */
+static void one_byte(struct trace *t, uint32_t threads, uint32_t steps)
+{
+    for (uint32_t i = 0; i < threads; i++) {
+        put(t, SPAWN, 0);
+        for (uint32_t j = 0; j < steps; j++) {
+            uint32_t cell = below(t, 16);
+            put(t, READ, below(t, 16));
+            locked_update(t, cell, cell);
+        }
+        put(t, RETURN, 0);
+        if (i % 8 == 7)
+            put(t, SYNC, 0);
+    }
+    put(t, RETURN, 0);
+}
+
+/* Numbers of three bytes alone: of the upper half of the locations. Main does not return, which would be one byte. */
+static void three_byte(struct trace *t, uint32_t accesses, uint32_t none)
+{
+    (void)none;
+    for (uint32_t i = 0; i < accesses; i++)
+        put(t, below(t, 4) == 0 ? WRITE : READ, 2048 + below(t, 2048));
+}
+
 enum { KIB = 1024, MIB = 1024 * KIB };
 
 const struct workload workloads[] = {
@@ -374,6 +399,14 @@ const struct workload growth[] = {
     {"depth-256", at_depth, 256, 40000, 0},
     {"depth-4000", at_depth, 4000, 20000, 0},
     {"depth-4000", at_depth, 4000, 40000, 0},
+    {0},
+};
+
+const struct workload recorded[] = {
+    {"knit", knit, 64 * KIB, 128, 0},
+    {"one-byte", one_byte, 1000, 6, 0},
+    {"three-byte", three_byte, 32000, 0, 14},
+    {"locks", bucket, 130, 50, 0},
     {0},
 };
 

@@ -1,42 +1,51 @@
-/* A recorder for a serial run, over the library's writer: each call records one event and notes the line of the source
-   it stands in, so that a race can be traced to two lines. Copy it, or put the writer under your own recorder. */
+/* A recorder for a serial run, over the library's writer: each call records one event, and notes its kind and the line
+   of the source it stands in, so that a race can be traced to two lines. Copy it, or put the writer under your own
+   recorder. */
 #ifndef RECORDER_H
 #define RECORDER_H
 
 #include <zobukwami.h>
 
+typedef struct recorder_note {
+    uint32_t kind;
+    uint32_t line;
+} recorder_note;
+
 typedef struct recorder {
     uint8_t *bytes;        /* lent: the trace */
     size_t bytes_length;   /* how many bytes there are for it */
-    uint32_t *lines;       /* lent: the line of each event */
-    size_t lines_length;   /* how many lines there is room for */
+    recorder_note *notes;  /* lent: a note of each event */
+    size_t notes_length;   /* how many notes there is room for */
     size_t next;           /* the place of the next event: the length of the trace */
     size_t events;         /* events recorded */
     uint32_t code;         /* 0, or the first refusal, after which nothing more is recorded */
     uint32_t refused_line; /* the line of what was refused */
 } recorder;
 
-/* A recorder at its start. For each event ZOBUKWAMI_EVENT_BYTES bytes are enough, and one line is needed. */
-static inline recorder recorder_lent(uint8_t *bytes, size_t bytes_length, uint32_t *lines, size_t lines_length)
+/* A recorder at its start. For each event ZOBUKWAMI_EVENT_BYTES bytes are enough, and one note is needed. */
+static inline recorder recorder_lent(uint8_t *bytes, size_t bytes_length, recorder_note *notes, size_t notes_length)
 {
-    recorder to = {bytes, bytes_length, lines, lines_length, 0, 0, ZOBUKWAMI_ACCEPTED, 0};
+    recorder to = {bytes, bytes_length, notes, notes_length, 0, 0, ZOBUKWAMI_ACCEPTED, 0};
     return to;
 }
 
-/* Where there is no room for the line, the event is refused as the writer does where there is none for its bytes. */
+/* Where there is no room for its note, an event gets ZOBUKWAMI_BUFFER_SHORT, whatever it is. */
 static inline void recorder_event(recorder *to, uint32_t line, uint32_t kind, uint32_t operand)
 {
     if (to->code != ZOBUKWAMI_ACCEPTED)
         return;
     zobukwami_written written = {ZOBUKWAMI_BUFFER_SHORT, to->next};
-    if (to->events < to->lines_length)
+    if (to->events < to->notes_length)
         written = zobukwami_write_event(to->bytes, to->bytes_length, to->next, kind, operand);
     to->code = written.code;
     to->next = written.next;
-    if (written.code == ZOBUKWAMI_ACCEPTED)
-        to->lines[to->events++] = line;
-    else
+    if (written.code == ZOBUKWAMI_ACCEPTED) {
+        recorder_note *note = &to->notes[to->events++];
+        note->kind = kind;
+        note->line = line;
+    } else {
         to->refused_line = line;
+    }
 }
 
 static inline void recorder_spawn(recorder *to, uint32_t line)

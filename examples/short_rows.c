@@ -1,6 +1,6 @@
 /* The request's own case as a program: a short row generator splits the back of a bear, spawns the halves, and lets
    them share one row table under locks. It is run serially, as a Cilk program is when its trace is recorded, and the
-   trace is checked. First comes the generator as it was when it knitted a shelf, then the corrected one. On the desk
+   trace is checked. First comes the generator as it was when it knitted a shelf, then the corrected one. Run serially,
    both come out right. */
 #include "recorder.h"
 
@@ -22,7 +22,7 @@ enum {
 
 static int table[ROWS];
 static uint8_t bytes[BYTES];
-static uint32_t lines[EVENTS];
+static recorder_note notes[EVENTS];
 static recorder run;
 
 /* Every access to the row table is one of these two, which record it with the line they stand in. */
@@ -107,48 +107,42 @@ static void split(const generator *by, uint32_t from, uint32_t end)
     RECORD_RETURN(&run);
 }
 
-/* Records a whole run, and gives the rows as they lie on the desk afterwards. */
-static void make_back(const generator *by, int *desk)
+/* Records a whole run, and gives the rows as it leaves them. */
+static void make_back(const generator *by, int *rows)
 {
-    run = recorder_lent(bytes, BYTES, lines, EVENTS);
+    run = recorder_lent(bytes, BYTES, notes, EVENTS);
     for (uint32_t row = 0; row < ROWS; row++)
         PUT(row, MISSING);
     RECORD_SPAWN(&run);
     split(by, 0, ROWS);
     RECORD_SYNC(&run);
     for (uint32_t row = 0; row < ROWS; row++)
-        desk[row] = LENGTH(row);
+        rows[row] = LENGTH(row);
     RECORD_RETURN(&run);
 }
 
-static void print_desk(const char *name, const int *desk)
+static void print_rows(const char *name, const int *rows)
 {
-    int shortest = desk[0], longest = desk[0], stitches = 0;
+    int shortest = rows[0], longest = rows[0], stitches = 0;
     for (uint32_t row = 0; row < ROWS; row++) {
-        shortest = desk[row] < shortest ? desk[row] : shortest;
-        longest = desk[row] > longest ? desk[row] : longest;
-        stitches += desk[row];
+        shortest = rows[row] < shortest ? rows[row] : shortest;
+        longest = rows[row] > longest ? rows[row] : longest;
+        stitches += rows[row];
     }
-    printf("%s: on the desk %d rows of %d to %d stitches, %d in all\n", name, ROWS, shortest, longest, stitches);
+    printf("%s: run serially, %d rows of %d to %d stitches, %d in all\n", name, ROWS, shortest, longest, stitches);
 }
 
-/* What an access of the trace does: a byte below 128 ends an event, and the low three bits of the next are a kind. */
 static const char *done_by(uint32_t event)
 {
-    size_t place = 0;
-    for (uint32_t passed = 0; passed < event; place++) {
-        if (bytes[place] < 128)
-            passed++;
-    }
-    return bytes[place] % 8 == ZOBUKWAMI_WRITE ? "written" : "read";
+    return notes[event].kind == ZOBUKWAMI_WRITE ? "written" : "read";
 }
 
 static void print_race(uint32_t row, uint32_t earlier, uint32_t later)
 {
     printf("  row %" PRIu32 ": %s at %s:%" PRIu32 " (event %" PRIu32 ")\n",
-           row, done_by(earlier), __FILE__, lines[earlier], earlier);
+           row, done_by(earlier), __FILE__, notes[earlier].line, earlier);
     printf("    and %s at %s:%" PRIu32 " (event %" PRIu32 "), and no lock is held at both\n",
-           done_by(later), __FILE__, lines[later], later);
+           done_by(later), __FILE__, notes[later].line, later);
 }
 
 /* Checks the recorded trace and prints every race. Is it accepted, and are there races or none, as is wanted? */
@@ -178,15 +172,15 @@ static bool save(const char *file_name)
 }
 
 /* Records and checks a run, and saves its trace where a file is named. Did all of it go as is wanted? */
-static bool show(const generator *by, bool racing, int *desk, const char *file_name)
+static bool show(const generator *by, bool racing, int *rows, const char *file_name)
 {
-    make_back(by, desk);
+    make_back(by, rows);
     if (run.code != ZOBUKWAMI_ACCEPTED) {
         fprintf(stderr, "%s: event %zu, at %s:%" PRIu32 ", is refused with code %" PRIu32 "\n",
                 by->name, run.events, __FILE__, run.refused_line, run.code);
         return false;
     }
-    print_desk(by->name, desk);
+    print_rows(by->name, rows);
     bool checked = check(by->name, racing);
     return (file_name == NULL || save(file_name)) && checked;
 }
@@ -201,7 +195,7 @@ int main(int count, char **words)
     bool as_told = show(&faulty, true, before, count == 3 ? words[1] : NULL);
     as_told = show(&corrected, false, after, count == 3 ? words[2] : NULL) && as_told;
     bool same = memcmp(before, after, sizeof before) == 0;
-    printf("on the desk the two are %s\n", same ? "the same, row for row" : "different");
+    printf("run serially, the two give %s\n", same ? "the same rows" : "different rows");
     if (fflush(stdout) != 0 || ferror(stdout)) {
         perror("standard output");
         return 1;

@@ -22,15 +22,15 @@ enum {
     ZOBUKWAMI_EVENT_BYTES = 3        /* the most bytes that an event takes */
 };
 
-/* The kinds of events, and what the operand is. */
+/* The kinds of events. */
 enum {
-    ZOBUKWAMI_SPAWN = 0,  /* 0 */
-    ZOBUKWAMI_RETURN = 1, /* 0 */
-    ZOBUKWAMI_SYNC = 2,   /* 0 */
-    ZOBUKWAMI_LOCK = 3,   /* a lock, 0 to 62 */
-    ZOBUKWAMI_UNLOCK = 4, /* a lock, 0 to 62 */
-    ZOBUKWAMI_READ = 5,   /* a location, 0 to 4,095 */
-    ZOBUKWAMI_WRITE = 6   /* a location, 0 to 4,095 */
+    ZOBUKWAMI_SPAWN = 0,  /* the operand is 0 */
+    ZOBUKWAMI_RETURN = 1, /* the operand is 0 */
+    ZOBUKWAMI_SYNC = 2,   /* the operand is 0 */
+    ZOBUKWAMI_LOCK = 3,   /* the operand is a lock, 0 to 62 */
+    ZOBUKWAMI_UNLOCK = 4, /* the operand is a lock, 0 to 62 */
+    ZOBUKWAMI_READ = 5,   /* the operand is a location, 0 to 4,095 */
+    ZOBUKWAMI_WRITE = 6   /* the operand is a location, 0 to 4,095 */
 };
 
 /* What a code says. The writer gives 0, 5, 6 and 15; the checker 0 to 14. */
@@ -121,7 +121,8 @@ zobukwami_written zobukwami_write_event(
 
 /* Writes a list of events one after the other, or, where one of them is refused, none: the first refused decides the
    code. The list is lent as numbers, two to an event, kind and operand; a last kind without an operand is refused as
-   if that were too large. An empty list is refused for its place alone. Nothing that is lent may overlap. */
+   if that were too large. An empty list is refused for its place alone. Either pointer may be NULL where its length is
+   0; what they lead to may not overlap. */
 zobukwami_written zobukwami_write_events(
     uint8_t *buffer, size_t buffer_length,
     size_t place,

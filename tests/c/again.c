@@ -61,7 +61,7 @@ int main(void)
     const size_t count = read_events(answer.offset);
     memset(buffer, NOISE, answer.offset + 2 * AROUND);
     const zobukwami_written written =
-        zobukwami_write_list(buffer, AROUND + answer.offset, AROUND, events, count);
+        zobukwami_write_list(buffer, answer.offset + 2 * AROUND, AROUND, events, count);
     int wrong = differs("events", answer.events, count);
     wrong |= differs("code", ZOBUKWAMI_ACCEPTED, written.code);
     wrong |= differs("next place", AROUND + answer.offset, written.next);

@@ -760,14 +760,35 @@ static void round_trip(const run *made)
     expect("checker's offset", end, answer.offset);
 }
 
+/* The run as a list into a buffer of the length that it takes, a longer one, and one a byte too short. */
+static void hold_run(const run *made)
+{
+    const size_t end = end_of(0, made->numbers, 2 * made->events);
+    lend_list(made->numbers, 2 * made->events);
+    hold_list(end, 0);
+    hold_list(end + 3, 0);
+    hold_list(end - 1, 0);
+}
+
+/* The same with one event of it refused. */
+static void hold_run_refused(run *made, size_t position)
+{
+    const zobukwami_event kept = {made->numbers[2 * position], made->numbers[2 * position + 1]};
+    set_event(made->numbers, position, refused[random_below(COUNT(refused))]);
+    lend_list(made->numbers, 2 * made->events);
+    hold_list(MOST_BYTES, 0);
+    set_event(made->numbers, position, kept);
+}
+
 /* Short runs, and now and then one that may be almost as long as a list can be. */
 static void hold_runs(void)
 {
     static run made;
     for (unsigned i = 0; i < ROUND_TRIPS; i++) {
         make_run(&made, random_below(i % 16 == 0 ? MOST_EVENTS - 8 : 64));
-        lend_list(made.numbers, 2 * made.events);
-        hold_list(end_of(0, made.numbers, 2 * made.events), 0);
+        hold_run(&made);
+        hold_run_refused(&made, random_below((uint32_t)made.events));
+        hold_run_refused(&made, made.events - 1);
         round_trip(&made);
     }
 }

@@ -21,7 +21,7 @@ use Rattle.checker.specs.Rules.{Verdict, goes-on, stops, firstBroken, ru
 use Rattle.checker.specs.Call.{Lent, Left, unread}
 use Rattle.checker.specs.Demands.{Stops}
 use Rattle.checker.specs.Contract.{Contract}
-use Rattle.checker.proofs.Stopping.{judged-found, judged-refused, stop-is-no-go, accepted-means, place-within}
+use Rattle.checker.proofs.Stopping.{judged-found, judged-refused, stop-is-no-go, accepted-means, first-place, place-within}
 
 -- ---- no refusal has code 0
 
@@ -67,6 +67,9 @@ at-the-end trace k e = elim (decLt (place trace k) (length trace)) [
     judge left (Found event next) is = omega (arith, rules-coded (events trace) k 0 (sym (judged-found trace k next event left is .0) ∙ e))
 
 -- ---- the accepted part
+
+pub starts-at-0 : (trace : List ℕ) → place trace 0 ≡ 0
+starts-at-0 = first-place
 
 module _ (l : Lent) (r : Left) (contract : Contract l r) where
   accepted-before : AcceptedBefore (l .trace) (r .answer .events)

@@ -13,7 +13,7 @@ use Rattle.trace.specs.declared.Number.the-variants.{Value}
 use Rattle.trace.specs.declared.Reading.the-variants.{Found}
 use Rattle.trace.specs.Numbers.{group, value, followed, size, mostGroups, numberOf, numberAt}
 use Rattle.trace.specs.declared.Event.{Event}
-use Rattle.trace.specs.Kinds.{eventOf, reserved, largestOperand}
+use Rattle.trace.specs.Kinds.{eventOf, asNumber, reserved, largestOperand}
 use Rattle.trace.specs.Events.{readingAt}
 use Rattle.trace.proofs.Groups.{followed-ends}
 use Rattle.trace.proofs.Gathering.{whole as gathered}
@@ -64,10 +64,10 @@ module _ (trace : List ℕ) (at : ℕ) (there : at < length trace) where
       rw (drop-cons trace at 0 there) (group-and-more (getD trace at 0) (drop (suc at) trace) at number next top is some near)
 
 -- an event, where the number of one stands
-pub event-there : (trace : List ℕ) (at : ℕ) (e : Event) (next : ℕ) → numberAt trace at ≡ Value (8 * e .operand + e .kind) next → e .kind < reserved
+pub event-there : (trace : List ℕ) (at : ℕ) (e : Event) (next : ℕ) → numberAt trace at ≡ Value (asNumber e) next → e .kind < reserved
     → e .operand ≤ largestOperand e → readingAt trace at ≡ Found e next
 event-there trace at e next is lawful within =
-    let number = 8 * e .operand + e .kind in
+    let number = asNumber e in
     let same : eventOf number ≡ e = ap₂ (λ (k o : ℕ). record { kind = k; operand = o }) (omega arith) (omega arith) in
     sym
     (an-event trace at (numberAt trace at) refl number next is (λ seven. omega arith)

@@ -2,7 +2,7 @@
 -- table allows it; where there was none, the place is as it was. By the cases of the definitions. Assumes nothing.
 use Prim.Native.Nat.{ℕ, zero, suc, _+_, _-_, _*_, _%_, _/_, _≤_, _<_}
 use mathlib.Core.Path.{_≡_, refl, subst, ap₂, _∙_}
-use mathlib.Core.Bool.{Bool, true, false, cond, not, _&&_, _||_, and-eq-true-iff}
+use mathlib.Core.Bool.{Bool, true, false, cond, _&&_, _||_, and-eq-true-iff}
 use mathlib.Core.List.{List, [], _∷_}
 use native.Mathlib.Omega.{arith}
 use native.Mathlib.Decide.{decLt}
@@ -17,7 +17,7 @@ use Rattle.trace.specs.declared.Number.{Number}
 use Rattle.trace.specs.declared.Number.the-variants.{Value, Broken}
 use Rattle.trace.specs.declared.Reading.the-variants.{Found, Refused}
 use Rattle.trace.specs.Numbers.{value, followed, size, mostGroups, group, endInside, tooLong, numberOf, numberAt}
-use Rattle.trace.specs.Kinds.{eventOf, kinds, reserved, entry, largestOperand, isAccess, location}
+use Rattle.trace.specs.Kinds.{eventOf, asNumber, kinds, reserved, entry, largestOperand, isAccess, location}
 use Rattle.trace.specs.Events.{judged, readingAt}
 
 -- ---- a number that was read
@@ -66,7 +66,7 @@ whole bytes at number next e = go (endInside bytes) (tooLong bytes) refl refl e
 -- ---- an event that was found
 
 pub record FoundAt (trace : List ℕ) (at : ℕ) (e : Event) (next : ℕ) : Type 0 where
-  pub number : numberAt trace at ≡ Value (8 * e .operand + e .kind) next
+  pub number : numberAt trace at ≡ Value (asNumber e) next
   pub after : at < next
   pub near : next ≤ at + mostGroups
   pub within : next ≤ length trace
@@ -90,7 +90,7 @@ found trace at e next r = go (numberAt trace at) refl r
         let place : after ≡ next = cc in
         let room : size (drop at trace) ≤ length trace - at = rw length-drop at (w .inside) in
         record {
-          number = is ∙ ap₂ Value (subst (λ (x : Event). number ≡ 8 * x .operand + x .kind) same back) place;
+          number = is ∙ ap₂ Value (subst (λ (x : Event). number ≡ asNumber x) same back) place;
           after = omega arith;
           near = omega arith;
           within = omega arith;
@@ -131,20 +131,11 @@ every-row test [] e none k = none
 every-row test (row ∷ rows) e none zero = and-eq-true-iff (test row) (holds test rows) .0 e .0
 every-row test (row ∷ rows) e none (suc k) = every-row test rows (and-eq-true-iff (test row) (holds test rows) .0 e .1) none k
 
--- every access has a location below 4,096
-small : List ℕ → Bool
-small row = not (eqb (getD row 2 0) 1) || ltb (getD row 0 0) 4096
-
--- and no operand that the table allows is larger
+-- no operand that the table allows, and so no location, is above 4,095
 pub operand-small : (e : Event) → e .operand ≤ largestOperand e → e .operand < 4096
 unfolding entry holds
 operand-small e within =
     omega (arith, ltb-true (largestOperand e) 4096 (every-row (λ (row : List ℕ). ltb (getD row 0 0) 4096) kinds refl refl (e .kind)))
 
 pub location-small : (e : Event) → isAccess e ≡ true → e .operand ≤ largestOperand e → location e < 4096
-unfolding entry holds small
-location-small e access within = go (isAccess e) access (every-row small kinds refl refl (e .kind))
-  where
-    go : (b : Bool) → b ≡ true → (not b || ltb (largestOperand e) 4096) ≡ true → location e < 4096
-    go true q rule = omega (arith, ltb-true (largestOperand e) 4096 rule)
-    go false q rule = let z : _≡_ {A = ℕ} 0 1 = cc in omega arith
+location-small e access within = operand-small e within

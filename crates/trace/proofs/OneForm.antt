@@ -10,11 +10,8 @@ use lib.ListN.{length, getD, take, drop}
 use lib.Seq.{getD-drop}
 use borrow.Author.Tests.{leb-true, leb-false}
 use Rattle.trace.specs.declared.Number.the-variants.{Value}
-use Rattle.trace.specs.Numbers.{group, value, followed, size, numberAt}
+use Rattle.trace.specs.Numbers.{Bytes, group, value, followed, size, numberAt}
 use Rattle.trace.proofs.Laws.{whole}
-
-abbrev pub Bytes : List ℕ → Type 0
-Bytes bytes = (i : ℕ) → getD bytes i 0 < 256
 
 abbrev last : List ℕ → ℕ
 last bytes = group (getD bytes (followed bytes) 0)

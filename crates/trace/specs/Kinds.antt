@@ -1,5 +1,5 @@
 -- The kinds of events and what the table says of each.
-use Prim.Native.Nat.{ℕ, _/_, _%_}
+use Prim.Native.Nat.{ℕ, _+_, _*_, _/_, _%_}
 use mathlib.Core.Bool.{Bool}
 use mathlib.Core.List.{List, [], _∷_}
 use lib.Dec.{eqb}
@@ -9,6 +9,10 @@ use Rattle.trace.specs.declared.Event.{Event}
 -- The kind is the number mod 8, the operand the number divided by 8, rounded down.
 abbrev pub eventOf : ℕ → Event
 eventOf number = record { kind = number % 8; operand = number / 8 }
+
+-- So the number of an event is this.
+abbrev pub asNumber : Event → ℕ
+asNumber e = 8 * e .operand + e .kind
 
 -- One row for each of the eight kinds: largest operand, lawful with a lock held, access, read mark.
 abbrev pub kinds : List (List ℕ)

@@ -1,5 +1,5 @@
 -- The number that stands at a place of a trace.
-use Prim.Native.Nat.{ℕ, suc, _+_, _*_, _%_}
+use Prim.Native.Nat.{ℕ, suc, _+_, _*_, _%_, _<_}
 use mathlib.Core.Bool.{Bool, cond, _&&_, _||_}
 use mathlib.Core.List.{List, [], _∷_}
 use lib.Dec.{eqb, leb, ltb}
@@ -7,6 +7,10 @@ use lib.ListN.{length, getD, take, drop}
 use Rattle.trace.specs.declared.Refusal.the-variants.{BytesEnd, FormLong}
 use Rattle.trace.specs.declared.Number.{Number}
 use Rattle.trace.specs.declared.Number.the-variants.{Value, Broken}
+
+-- Bytes: what is said of the form of a number holds of these.
+abbrev pub Bytes : List ℕ → Type 0
+Bytes trace = (i : ℕ) → getD trace i 0 < 256
 
 -- A trace is a row of numbers, each in groups of seven bits, lowest group first, one group to a byte.
 abbrev pub group : ℕ → ℕ

@@ -8,11 +8,11 @@ use lib.Dec.{leb, ltb}
 use lib.ListN.{length, length-append}
 use borrow.Author.Tests.{lt-ltb, le-ltb, le-leb, lt-leb, ltb-false, leb-false}
 use Rattle.trace.specs.declared.Event.{Event}
-use Rattle.trace.specs.Kinds.{reserved, largestOperand}
+use Rattle.trace.specs.Kinds.{asNumber, reserved, largestOperand}
 use Rattle.trace.specs.Numbers.{mostGroups}
 use Rattle.writer.specs.declared.Why.{Why}
 use Rattle.writer.specs.declared.Why.the-variants.{Kind, Operand, Place}
-use Rattle.writer.specs.Form.{groups, numberOf, bytesOf, bytesOfAll}
+use Rattle.writer.specs.Form.{groups, bytesOf, bytesOfAll}
 use Rattle.writer.specs.Contract.{codeFor, eventCode, firstRefused, listCode, nextPlace}
 
 -- ---- one event
@@ -24,15 +24,15 @@ pub record Fits (room at : ℕ) (e : Event) : Type 0 where
   pub inside : at + length (bytesOf e) ≤ room
 
 module _ (room at : ℕ) (e : Event) where
-  pub kind-refused : reserved ≤ e .kind → codeFor Kind ≡ eventCode room at e
+  kind-refused : reserved ≤ e .kind → codeFor Kind ≡ eventCode room at e
   unfolding eventCode
   kind-refused above = rw (le-leb reserved (e .kind) above)
 
-  pub operand-refused : e .kind < reserved → largestOperand e < e .operand → codeFor Operand ≡ eventCode room at e
+  operand-refused : e .kind < reserved → largestOperand e < e .operand → codeFor Operand ≡ eventCode room at e
   unfolding eventCode
   operand-refused kind above = rw (lt-leb reserved (e .kind) kind, lt-ltb (largestOperand e) (e .operand) above)
 
-  pub place-refused : e .kind < reserved → e .operand ≤ largestOperand e → room < at + length (bytesOf e) → codeFor Place ≡ eventCode room at e
+  place-refused : e .kind < reserved → e .operand ≤ largestOperand e → room < at + length (bytesOf e) → codeFor Place ≡ eventCode room at e
   unfolding eventCode
   place-refused kind operand outside =
       rw (lt-leb reserved (e .kind) kind, le-ltb (largestOperand e) (e .operand) operand, lt-ltb room (at + length (bytesOf e)) outside)
@@ -54,8 +54,8 @@ module _ (room at : ℕ) (e : Event) where
       go false false false f g h z = record { kind = leb-false _ _ f; operand = ltb-false _ _ g; inside = ltb-false _ _ h }
 
 -- what is given for it, the size of its number being known
-abbrev pub Judged : ℕ → ℕ → Event → ℕ → ℕ → Type 0
-Judged room at e code next = (code ≡ eventCode room at e) × (next ≡ nextPlace code at (e ∷ []))
+abbrev pub JudgedEvent : ℕ → ℕ → Event → ℕ → ℕ → Type 0
+JudgedEvent room at e code next = (code ≡ eventCode room at e) × (next ≡ nextPlace code at (e ∷ []))
 
 pub next-of-one : (at : ℕ) (e : Event) → nextPlace 0 at (e ∷ []) ≡ at + length (bytesOf e)
 unfolding bytesOfAll nextPlace
@@ -66,27 +66,27 @@ abbrev pub Refused : Why → ℕ → ℕ → ℕ → Type 0
 Refused why at code next = (code ≡ codeFor why) × (next ≡ at)
 
 module _ (room at : ℕ) (e : Event) (code next : ℕ) where
-  pub judged-kind : Refused Kind at code next → reserved ≤ e .kind → Judged room at e code next
+  pub judged-kind : Refused Kind at code next → reserved ≤ e .kind → JudgedEvent room at e code next
   unfolding nextPlace
   judged-kind is above = rw (is .0, is .1) (kind-refused room at e above, refl)
 
   module _ (kind : e .kind < reserved) where
-    pub judged-operand : Refused Operand at code next → largestOperand e < e .operand → Judged room at e code next
+    pub judged-operand : Refused Operand at code next → largestOperand e < e .operand → JudgedEvent room at e code next
     unfolding nextPlace
     judged-operand is above = rw (is .0, is .1) (operand-refused room at e kind above, refl)
 
     module _ (operand : e .operand ≤ largestOperand e) where
-      pub judged-outside : Refused Place at code next → room < at + length (bytesOf e) → Judged room at e code next
+      pub judged-outside : Refused Place at code next → room < at + length (bytesOf e) → JudgedEvent room at e code next
       unfolding nextPlace
       judged-outside is outside = rw (is .0, is .1) (place-refused room at e kind operand outside, refl)
 
-      pub judged-inside : code ≡ 0 → next ≡ at + length (bytesOf e) → next ≤ room → Judged room at e code next
+      pub judged-inside : code ≡ 0 → next ≡ at + length (bytesOf e) → next ≤ room → JudgedEvent room at e code next
       judged-inside none is inside =
           rw none
           (not-refused room at e (record { kind = kind; operand = operand; inside = rw is at inside }), is ∙ sym (next-of-one at e))
 
 -- the bytes of an event are the groups of its number
-pub size-known : (e : Event) (number size : ℕ) → number ≡ numberOf e → size ≡ length (groups mostGroups number) → size ≡ length (bytesOf e)
+pub size-known : (e : Event) (number size : ℕ) → number ≡ asNumber e → size ≡ length (groups mostGroups number) → size ≡ length (bytesOf e)
 unfolding bytesOf
 size-known e number size is takes = takes ∙ ap (λ (n : ℕ). length (groups mostGroups n)) is
 

@@ -11,9 +11,9 @@ use lib.Seq.{sets, sets-eq}
 use borrow.Author.Tests.{lt-ltb, le-ltb}
 use Rattle.trace.specs.declared.Event.{Event}
 use Rattle.trace.specs.Numbers.{mostGroups}
-use Rattle.trace.specs.Kinds.{reserved, largestOperand}
+use Rattle.trace.specs.Kinds.{asNumber, reserved, largestOperand}
 use Rattle.trace.proofs.Laws.{operand-small}
-use Rattle.writer.specs.Form.{groups, numberOf, bytesOf}
+use Rattle.writer.specs.Form.{groups, bytesOf}
 use Rattle.writer.specs.Contract.{overwritten}
 use Rattle.writer.proofs.Codes.{Fits}
 
@@ -40,7 +40,7 @@ groups-few (suc more) number =
       | no top ↦ rw (next-group more number (omega arith)) (suc-le-suc (groups-few more (number / 128)))
     ]
 
-pub groups-some : (more number : ℕ) → 0 < length (groups (suc more) number)
+groups-some : (more number : ℕ) → 0 < length (groups (suc more) number)
 groups-some more number =
     elim (decLt number 128) [
       | yes low ↦ rw (last-group more number low) (suc-le-suc zero-le)
@@ -72,7 +72,7 @@ module _ {number at next rest : ℕ} where
   pub last-remains : (r : Remains number at next rest) → rest < 128 → next + 1 ≡ at + length (groups mostGroups number)
   last-remains r low = rw (last-group (r .more) rest low) at (r .ends)
 
-  pub next-within : Remains number at next rest → next < at + length (groups mostGroups number)
+  next-within : Remains number at next rest → next < at + length (groups mostGroups number)
   next-within r = omega (arith, r .ends, groups-some (r .more) rest)
 
   pub next-near : Remains number at next rest → next < at + mostGroups
@@ -80,7 +80,7 @@ module _ {number at next rest : ℕ} where
 
 -- ---- the number of an event that the table allows
 
-pub number-small : (e : Event) → e .kind < reserved → e .operand ≤ largestOperand e → numberOf e < 128 ^ mostGroups
+pub number-small : (e : Event) → e .kind < reserved → e .operand ≤ largestOperand e → asNumber e < 128 ^ mostGroups
 number-small e kind operand = omega (arith, operand-small e operand)
 
 -- ---- writing them into a buffer: those left, stored from the next place on, make the whole
@@ -92,13 +92,13 @@ pub record Putting (before : List ℕ) (at number : ℕ) (buffer : List ℕ) (ne
   pub long : length buffer ≡ length before
 
 -- an event that is not refused
-pub putting-begins : (before : List ℕ) (at : ℕ) (e : Event) (number : ℕ) → number ≡ numberOf e → Fits (length before) at e
+pub putting-begins : (before : List ℕ) (at : ℕ) (e : Event) (number : ℕ) → number ≡ asNumber e → Fits (length before) at e
     → Putting before at number before at number
 unfolding bytesOf all-remain
 putting-begins before at e number is f =
     rw is
     record {
-      remains = all-remain (numberOf e) at (number-small e (f .kind) (f .operand));
+      remains = all-remain (asNumber e) at (number-small e (f .kind) (f .operand));
       same = refl;
       inside = f .inside;
       long = refl;
@@ -124,7 +124,7 @@ module _ {before : List ℕ} {at number : ℕ} {buffer : List ℕ} {next rest : 
         long = length-set buffer next (128 + rest % 128) ∙ p .long;
       }
 
-  pub putting-ends : Putting before at number buffer next rest → (e : Event) → number ≡ numberOf e → rest < 128
+  pub putting-ends : Putting before at number buffer next rest → (e : Event) → number ≡ asNumber e → rest < 128
       → (next + 1 ≡ at + length (bytesOf e)) × (set buffer next rest ≡ overwritten before at (bytesOf e))
   unfolding bytesOf
   putting-ends p e is low =

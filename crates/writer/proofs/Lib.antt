@@ -3,4 +3,5 @@ pub mod Codes
 pub mod Groups
 pub mod Lists
 pub mod RoundTrip
+pub mod InTurn
 pub mod NoTwoOutcomes

@@ -9,21 +9,23 @@ use native.Mathlib.Omega.{arith}
 use native.Mathlib.Decide.{decLt}
 use lib.Dec.{lit<}
 use lib.ListN.{length, getD, take, drop, length-append, length-drop, List·getD-append}
-use lib.Seq.{getD-drop, getD-take, getD-append-add, drop-drop, take-add, take-all, drop-append-seam, drop-at, length-take-le}
+use lib.Seq.{getD-drop, getD-take, getD-append-add, drop-drop, take-add, take-all, drop-append-seam, drop-at, take-at, length-take-le}
 use Rattle.trace.specs.declared.Event.{Event}
 use Rattle.trace.specs.declared.Number.the-variants.{Value}
 use Rattle.trace.specs.declared.Reading.the-variants.{Found}
-use Rattle.trace.specs.Numbers.{mostGroups, numberAt}
-use Rattle.trace.specs.Kinds.{reserved, largestOperand}
+use Rattle.trace.specs.Numbers.{Bytes, mostGroups, numberAt}
+use Rattle.trace.specs.Kinds.{asNumber, reserved, largestOperand}
 use Rattle.trace.specs.Events.{readingAt}
 use Rattle.trace.proofs.Laws.{found}
 use Rattle.trace.proofs.FromBytes.{last-group as last-read, group-before, event-there}
 use Rattle.trace.proofs.OneForm.{one-form}
 use Rattle.writer.specs.declared.Written.{Written}
-use Rattle.writer.specs.Form.{groups, numberOf, bytesOf, bytesOfAll}
-use Rattle.writer.specs.Contract.{listCode, nextPlace, overwritten, bufferAfter, Bytes, ReadAs, Wrote}
+use Rattle.writer.specs.declared.Judged.{Judged}
+use Rattle.writer.specs.Form.{groups, bytesOf, bytesOfAll}
+use Rattle.writer.specs.Contract.{eventCode, listCode, nextPlace, overwritten, bufferAfter, ReadAs, Wrote}
 use Rattle.writer.specs.Lists.{eventsIn, numbersOf}
-use Rattle.writer.proofs.Codes.{Judged, one-alone, fits, not-refused, first-passes, all-pass, empty-fits, list-inside}
+use Rattle.writer.specs.Parts.{AllJudged}
+use Rattle.writer.proofs.Codes.{JudgedEvent, next-of-one, one-alone, fits, not-refused, first-passes, all-pass, empty-fits, list-inside}
 use Rattle.writer.proofs.Groups.{last-group, next-group, rest-small, groups-few, number-small}
 
 -- ---- a place whose bytes are known
@@ -69,14 +71,14 @@ number-back (suc more) number trace at others small few is =
           ∙ ap₂ Value (rw (b .first) (omega arith)) (rw form (omega arith))
     ]
 
-pub event-back : (trace : List ℕ) (at : ℕ) (e : Event) (others : List ℕ) → e .kind < reserved → e .operand ≤ largestOperand e
+event-back : (trace : List ℕ) (at : ℕ) (e : Event) (others : List ℕ) → e .kind < reserved → e .operand ≤ largestOperand e
     → drop at trace ≡ bytesOf e ++ others → readingAt trace at ≡ Found e (at + length (bytesOf e))
 unfolding bytesOf
 event-back trace at e others kind operand is =
-    event-there trace at e (at + length (groups mostGroups (numberOf e)))
-    (number-back (mostGroups - 1) (numberOf e) trace at others (number-small e kind operand) (omega arith) is) kind operand
+    event-there trace at e (at + length (groups mostGroups (asNumber e)))
+    (number-back (mostGroups - 1) (asNumber e) trace at others (number-small e kind operand) (omega arith) is) kind operand
 
-pub events-back : (room : ℕ) (trace : List ℕ) (at : ℕ) (es : List Event) (others : List ℕ) → listCode room at es ≡ 0
+events-back : (room : ℕ) (trace : List ℕ) (at : ℕ) (es : List Event) (others : List ℕ) → listCode room at es ≡ 0
     → drop at trace ≡ bytesOfAll es ++ others → ReadAs trace at es (at + length (bytesOfAll es))
 unfolding ReadAs bytesOfAll
 events-back room trace at [] others passes is = omega arith
@@ -110,15 +112,15 @@ group-bytes (suc more) number =
           (byte-before (128 + number % 128) (groups more (number / 128)) (omega arith) (group-bytes more (number / 128)))
     ]
 
-pub event-again : (trace : List ℕ) (at : ℕ) (e : Event) (after : ℕ) → Bytes trace → readingAt trace at ≡ Found e after
+event-again : (trace : List ℕ) (at : ℕ) (e : Event) (after : ℕ) → Bytes trace → readingAt trace at ≡ Found e after
     → bytesOf e ≡ take (after - at) (drop at trace)
 unfolding bytesOf
 event-again trace at e after bytes is =
     let f = found trace at e after is in
-    let form = groups mostGroups (numberOf e) in
-    let back = number-back (mostGroups - 1) (numberOf e) form 0 [] (number-small e (f .kind) (f .operand)) (omega arith) (sym (append-nil form)) in
+    let form = groups mostGroups (asNumber e) in
+    let back = number-back (mostGroups - 1) (asNumber e) form 0 [] (number-small e (f .kind) (f .operand)) (omega arith) (sym (append-nil form)) in
     sym
-    (one-form trace form at 0 (numberOf e) after (0 + length form) bytes (group-bytes mostGroups (numberOf e)) (f .number) back
+    (one-form trace form at 0 (asNumber e) after (0 + length form) bytes (group-bytes mostGroups (asNumber e)) (f .number) back
     ∙ take-all (0 + length form - 0) form (omega arith))
 
 event-long : (trace : List ℕ) (at : ℕ) (e : Event) (after : ℕ) → Bytes trace → readingAt trace at ≡ Found e after
@@ -183,16 +185,19 @@ module _ (es : List Event) (before : List ℕ) (at : ℕ) (r : Written) (after :
   wrote-all none left =
       let passes : listCode (length before) at es ≡ 0 = sym code ∙ none in
       let inside : at + length (bytesOfAll es) ≤ length before = list-inside (length before) at es passes in
-      let others = drop (at + length (bytesOfAll es)) before in
-      let front : length (take at before) ≡ at = length-take-le at before (omega arith) in
-      let from : drop at after ≡ bytesOfAll es ++ others =
-      ap (drop at) (left ∙ append-assoc (take at before) (bytesOfAll es) others) ∙ drop-at (take at before) (bytesOfAll es ++ others) at front in
+      let front = take at before ++ bytesOfAll es in
+      let taken : length (take at before) ≡ at = length-take-le at before (omega arith) in
+      let long : length front ≡ at + length (bytesOfAll es) = omega (arith, length-append (take at before) (bytesOfAll es)) in
+      let kept : take (at + length (bytesOfAll es)) after ≡ front =
+      ap (take (at + length (bytesOfAll es))) left ∙ take-at front (drop (at + length (bytesOfAll es)) before) (at + length (bytesOfAll es)) long in
+      let from : (behind : List ℕ) → drop at (front ++ behind) ≡ bytesOfAll es ++ behind =
+      λ behind. ap (drop at) (append-assoc (take at before) (bytesOfAll es) behind) ∙ drop-at (take at before) (bytesOfAll es ++ behind) at taken in
       let place : r .next ≡ at + length (bytesOfAll es) = next ∙ ap (λ (c : ℕ). nextPlace c at es) none in
       record {
         code = code;
         next = next;
         buffer = left ∙ sym (ap (λ (c : ℕ). bufferAfter c before at es) none);
-        reads-back = λ z. subst (ReadAs after at es) (sym place) (events-back (length before) after at es others passes from);
+        reads-back = λ z behind. rw (place, kept) (events-back (length before) (front ++ behind) at es behind passes (from behind));
         written-again = λ trace begin end bytes read room.
             let whole = again trace begin end es bytes read in
             (none, place ∙ omega (arith, whole .0), left ∙ ap (overwritten before at) (whole .1));
@@ -200,13 +205,13 @@ module _ (es : List Event) (before : List ℕ) (at : ℕ) (r : Written) (after :
         outside-kept = λ i far. ap (λ (l : List ℕ). getD l i 0) left ∙ outside before (bytesOfAll es) at inside i (rw place at far);
       }
 
-  pub wrote-none : r .code ≢ 0 → after ≡ before → Wrote es before at r after
+  wrote-none : r .code ≢ 0 → after ≡ before → Wrote es before at r after
   unfolding nextPlace bufferAfter
   wrote-none some kept = record {
     code = code;
     next = next;
     buffer = go (r .code) some;
-    reads-back = λ none. absurd (some none);
+    reads-back = λ none behind. absurd (some none);
     written-again = λ trace begin end bytes read room. absurd (some (code ∙ passes-again trace begin end es bytes read (length before) at room));
     untouched = λ some. (next ∙ place (r .code) some, kept);
     outside-kept = λ i far. ap (λ (l : List ℕ). getD l i 0) kept;
@@ -221,17 +226,28 @@ module _ (es : List Event) (before : List ℕ) (at : ℕ) (r : Written) (after :
       place (suc c) some = refl
 
 -- one event is a list of one
-module _ (e : Event) (before : List ℕ) (at : ℕ) (r : Written) (after : List ℕ) (judged : Judged (length before) at e (r .code) (r .next)) where
-  code-of-one : r .code ≡ listCode (length before) at (e ∷ [])
-  code-of-one = judged .0 ∙ sym (one-alone (length before) at e)
-
-  pub wrote-one : r .code ≡ 0 → after ≡ overwritten before at (bytesOf e) → Wrote (e ∷ []) before at r after
+module _ (e : Event) (before : List ℕ) (at : ℕ) (r : Written) (after : List ℕ) where
+  pub wrote-one : r .code ≡ 0 → eventCode (length before) at e ≡ 0
+      → (r .next ≡ at + length (bytesOf e)) × (after ≡ overwritten before at (bytesOf e)) → Wrote (e ∷ []) before at r after
   unfolding bytesOfAll
-  wrote-one none left =
-      wrote-all (e ∷ []) before at r after code-of-one (judged .1) none (left ∙ ap (overwritten before at) (sym (append-nil (bytesOf e))))
+  wrote-one none passes put =
+      let place : r .next ≡ nextPlace (r .code) at (e ∷ []) = put .0 ∙ sym (next-of-one at e) ∙ sym (ap (λ (c : ℕ). nextPlace c at (e ∷ [])) none) in
+      wrote-all (e ∷ []) before at r after (none ∙ sym (one-alone (length before) at e ∙ passes)) place none
+      (put .1 ∙ ap (overwritten before at) (sym (append-nil (bytesOf e))))
 
-  pub refused-one : r .code ≢ 0 → after ≡ before → Wrote (e ∷ []) before at r after
-  refused-one = wrote-none (e ∷ []) before at r after code-of-one (judged .1)
+  pub refused-one : JudgedEvent (length before) at e (r .code) (r .next) → r .code ≢ 0 → after ≡ before → Wrote (e ∷ []) before at r after
+  refused-one judged = wrote-none (e ∷ []) before at r after (judged .0 ∙ sym (one-alone (length before) at e)) (judged .1)
+
+-- a list of numbers, of which the first that pass were written
+module _ (numbers before : List ℕ) (at : ℕ) (r : Judged) (after : List ℕ) (judged : AllJudged (length before) at numbers r) where
+  pub wrote-list : r .written .code ≡ 0 → after ≡ overwritten before at (bytesOfAll (take (r .passed) (eventsIn numbers)))
+      → Wrote (eventsIn numbers) before at (r .written) after
+  wrote-list none left =
+      wrote-all (eventsIn numbers) before at (r .written) after (judged .code) (judged .next) none
+      (left ∙ ap (λ (es : List Event). overwritten before at (bytesOfAll es)) (judged .all none))
+
+  pub refused-list : r .written .code ≢ 0 → after ≡ before → Wrote (eventsIn numbers) before at (r .written) after
+  refused-list = wrote-none (eventsIn numbers) before at (r .written) after (judged .code) (judged .next)
 
 -- ---- every list of events can be lent as numbers
 

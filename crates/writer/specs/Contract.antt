@@ -9,6 +9,7 @@ use lib.ListN.{length, getD, take, drop}
 use Rattle.trace.specs.declared.Event.{Event}
 use Rattle.trace.specs.declared.Refusal.the-variants.{Reserved, OperandLarge}
 use Rattle.trace.specs.declared.Reading.the-variants.{Found}
+use Rattle.trace.specs.Numbers.{Bytes}
 use Rattle.trace.specs.Kinds.{reserved, largestOperand}
 use Rattle.trace.specs.Events.{codeOf, readingAt}
 use Rattle.writer.specs.declared.Why.{Why}
@@ -39,15 +40,16 @@ unfoldable pub listCode : ℕ → ℕ → List Event → ℕ
 listCode room at [] = cond (ltb room at) (codeFor Place) 0
 listCode room at (e ∷ es) = firstRefused (eventCode room at e) (listCode room (at + length (bytesOf e)) es)
 
--- By the code, 0 or a refusal: the next place, on a refusal the given one;
+-- The next place, by the code: 0, or a refusal.
 unfoldable pub nextPlace : ℕ → ℕ → List Event → ℕ
 nextPlace zero at es = at + length (bytesOfAll es)
 nextPlace (suc c) at es = at
 
--- and the buffer: bytes outside those written keep what they had, and a refusal leaves it untouched.
+-- A buffer with bytes written from a place on; those outside keep what they had.
 abbrev pub overwritten : List ℕ → ℕ → List ℕ → List ℕ
 overwritten buffer at bytes = take at buffer ++ bytes ++ drop (at + length bytes) buffer
 
+-- The buffer afterwards, by the code.
 unfoldable pub bufferAfter : ℕ → List ℕ → ℕ → List Event → List ℕ
 bufferAfter zero buffer at es = overwritten buffer at (bytesOfAll es)
 bufferAfter (suc c) buffer at es = buffer
@@ -57,18 +59,15 @@ unfoldable pub ReadAs : List ℕ → ℕ → List Event → ℕ → Type 0
 ReadAs trace at [] next = at ≡ next
 ReadAs trace at (e ∷ es) next = (after : ℕ) × (readingAt trace at ≡ Found e after) × ReadAs trace after es next
 
--- A trace is made of bytes.
-abbrev pub Bytes : List ℕ → Type 0
-Bytes trace = (i : ℕ) → getD trace i 0 < 256
-
 -- What writing a list of events from a place of a buffer on promises; one event is a list of one. The first three parts fix everything. The others
--- say, in the words of the request, that what they fix is what was asked for: what is written, the reader reads back as the same events; what was
--- read, written again where it fits, is the same bytes; a refusal leaves the buffer untouched; bytes outside those written keep what they had.
+-- say, in the words of the request, that what they fix is what was asked for. What is written, the reader reads back as the same events, whatever comes
+-- behind it. What was read, written again where it fits, is the same bytes. A refusal leaves the buffer untouched, and bytes outside those written keep
+-- what they had.
 pub record Wrote (es : List Event) (before : List ℕ) (at : ℕ) (r : Written) (after : List ℕ) : Type 0 where
   pub code : r .code ≡ listCode (length before) at es
   pub next : r .next ≡ nextPlace (r .code) at es
   pub buffer : after ≡ bufferAfter (r .code) before at es
-  pub reads-back : r .code ≡ 0 → ReadAs after at es (r .next)
+  pub reads-back : r .code ≡ 0 → (behind : List ℕ) → ReadAs (take (r .next) after ++ behind) at es (r .next)
   pub written-again : (trace : List ℕ) (from to : ℕ) → Bytes trace → ReadAs trace from es to → at + (to - from) ≤ length before
       → (r .code ≡ 0) × (r .next ≡ at + (to - from)) × (after ≡ overwritten before at (take (to - from) (drop from trace)))
   pub untouched : r .code ≢ 0 → (r .next ≡ at) × (after ≡ before)

@@ -1,3 +1,4 @@
 pub mod Form
 pub mod Lists
 pub mod Contract
+pub mod Parts

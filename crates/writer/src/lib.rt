@@ -2,12 +2,13 @@
 ghost use mathlib.Core.Path.{_≡_};
 ghost use mathlib.Core.List.{_∷_, []};
 ghost use Prim.Native.Nat.{_+_, _*_, _^_, _≤_, _<_};
-ghost use lib.ListN.{length};
+ghost use lib.ListN.{length, take};
 ghost use Rattle.trace.specs.Numbers.{mostGroups};
-ghost use Rattle.trace.specs.Kinds.{reserved, largestOperand};
-ghost use Rattle.writer.specs.Form.{groups, numberOf, bytesOf, bytesOfAll};
-ghost use Rattle.writer.specs.Lists.{eventAt, eventsIn};
-ghost use Rattle.writer.specs.Contract.{codeFor, eventCode, listCode, nextPlace, overwritten, Wrote};
+ghost use Rattle.trace.specs.Kinds.{asNumber, reserved, largestOperand};
+ghost use Rattle.writer.specs.Form.{groups, bytesOf, bytesOfAll};
+ghost use Rattle.writer.specs.Lists.{eventsIn};
+ghost use Rattle.writer.specs.Contract.{codeFor, eventCode, nextPlace, overwritten, Wrote};
+ghost use Rattle.writer.specs.Parts.{eventAt, Pass, AllJudged};
 use trace::Event;
 use trace::RESERVED;
 use trace::Refusal;
@@ -61,19 +62,24 @@ pub fn write_event(buffer: &mut [u8], at: usize, kind: u32, operand: u32) -> Wri
         operand: operand,
     };
     let written = judge(buffer.len(), at, event);
-    if written.code == 0 {
-        put(buffer, at, event);
+    if written.code != 0 {
+        return written;
     }
-    written
+    let next = put(buffer, at, event);
+    Written {
+        code: 0,
+        next: next,
+    }
 }
 
 // Writes a list of events, two numbers each, one after the other, or none of them.
 pub fn write_events(buffer: &mut [u8], at: usize, events: &[u32]) -> Written
     ensures { λ r. ⌜ Wrote (eventsIn (now (events .entry))) (now (buffer .entry)) at r (now (buffer .exit)) ⌝ }
 {
-    let all = judge_all(buffer.len(), at, events);
+    let judged = judge_all(buffer.len(), at, events);
+    let all = judged.written;
     if all.code == 0 {
-        put_all(buffer, at, events);
+        put_first(buffer, at, events, judged.passed);
     }
     all
 }
@@ -82,7 +88,7 @@ pub fn write_events(buffer: &mut [u8], at: usize, events: &[u32]) -> Written
 fn number_of(event: Event) -> u32
     requires { ⌜ event .kind < reserved ⌝ }
     requires { ⌜ event .operand ≤ largestOperand event ⌝ }
-    ensures { λ r. ⌜ r ≡ numberOf event ⌝ }
+    ensures { λ r. ⌜ r ≡ asNumber event ⌝ }
 {
     event.operand * 8 + event.kind
 }
@@ -105,10 +111,10 @@ fn size_of(number: u32) -> usize
 fn judge(room: usize, at: usize, event: Event) -> Written
     ensures { λ r. ⌜ (r .code ≡ eventCode room at event) × (r .next ≡ nextPlace (r .code) at (event ∷ [])) ⌝ }
 {
-    let largest = event.largest_operand();
     if RESERVED <= event.kind {
         return refused(Why::Kind, at);
     }
+    let largest = event.largest_operand();
     if largest < event.operand {
         return refused(Why::Operand, at);
     }
@@ -141,64 +147,78 @@ fn put(buffer: &mut [u8], at: usize, event: Event) -> usize
     next + 1
 }
 
-// How many events a list of numbers has, one that lacks its operand counted.
-fn count_of(events: &[u32]) -> usize
-    ensures { λ r. ⌜ (length (now (events .entry)) ≤ 2 * r) × (2 * r ≤ length (now (events .entry)) + 1) ⌝ }
-{
-    events.len() / 2 + events.len() % 2
-}
-
 // Event i of a list.
 fn event_at(events: &[u32], i: usize) -> Event
-    requires { ⌜ 2 * i < length (now events) ⌝ }
+    requires { ⌜ 2 * i + 1 < length (now events) ⌝ }
     ensures { λ r. ⌜ r ≡ eventAt (now (events .entry)) i ⌝ }
 {
-    if 2 * i + 1 < events.len() {
-        return Event {
-            kind: events[2 * i],
-            operand: events[2 * i + 1],
-        };
-    }
     Event {
         kind: events[2 * i],
-        operand: NO_OPERAND,
+        operand: events[2 * i + 1],
     }
 }
 
-// What a list gets from a place on in so much room.
-fn judge_all(room: usize, from: usize, events: &[u32]) -> Written
-    ensures { λ r.
-        ⌜ (r .code ≡ listCode room from (eventsIn (now (events .entry)))) × (r .next ≡ nextPlace (r .code) from (eventsIn (now (events .entry)))) ⌝ }
+// What a list gets from a place on in so much room, and how many of its events pass before the first that is refused.
+struct Judged {
+    written: Written,
+    passed: usize,
+}
+
+fn judge_all(room: usize, from: usize, events: &[u32]) -> Judged
+    ensures { λ r. ⌜ AllJudged room from (now (events .entry)) r ⌝ }
 {
-    let count = count_of(events);
+    let count = events.len() / 2;
     let mut next = from;
     let mut i = 0;
     while i < count {
         let written = judge(room, next, event_at(events, i));
         if written.code != 0 {
-            return Written {
-                code: written.code,
-                next: from,
+            return Judged {
+                written: Written {
+                    code: written.code,
+                    next: from,
+                },
+                passed: i,
             };
         }
         next = written.next;
         i += 1;
     }
-    if room < next {
-        return refused(Why::Place, from);
+    if events.len() % 2 == 1 {
+        let last = Event {
+            kind: events[2 * i],
+            operand: NO_OPERAND,
+        };
+        let written = judge(room, next, last);
+        return Judged {
+            written: Written {
+                code: written.code,
+                next: from,
+            },
+            passed: i,
+        };
     }
-    Written {
-        code: 0,
-        next: next,
+    if room < next {
+        return Judged {
+            written: refused(Why::Place, from),
+            passed: i,
+        };
+    }
+    Judged {
+        written: Written {
+            code: 0,
+            next: next,
+        },
+        passed: i,
     }
 }
 
-// Writes a list that is not refused.
-fn put_all(buffer: &mut [u8], at: usize, events: &[u32])
-    requires { ⌜ listCode (length (now buffer)) at (eventsIn (now events)) ≡ 0 ⌝ }
-    ensures { λ _. ⌜ now (buffer .exit) ≡ overwritten (now (buffer .entry)) at (bytesOfAll (eventsIn (now (events .entry)))) ⌝ }
+// Writes the first events of a list, none of which is refused.
+fn put_first(buffer: &mut [u8], at: usize, events: &[u32], count: usize)
+    requires { ⌜ 2 * count ≤ length (now events) ⌝ }
+    requires { ⌜ Pass (length (now buffer)) at (take count (eventsIn (now events))) ⌝ }
+    ensures { λ _. ⌜ now (buffer .exit) ≡ overwritten (now (buffer .entry)) at (bytesOfAll (take count (eventsIn (now (events .entry))))) ⌝ }
 {
-    let count = count_of(events);
     let mut next = at;
     let mut i = 0;
     while i < count {

@@ -2,17 +2,15 @@
 -- the accepted part as these events, and what was read is written again as it stood (the part `written-again` of `Wrote`). Assumes nothing.
 use Prim.Native.Nat.{ℕ, zero, suc, _+_, _-_, _≤_}
 use mathlib.Core.Path.{_≡_, sym, ap, subst, _∙_}
-use mathlib.Core.List.{List}
 use native.Mathlib.Omega.{arith}
-use lib.ListN.{length, take}
+use lib.ListN.{take}
 use lib.Seq.{take-length}
-use Rattle.writer.specs.declared.Written.{Written}
-use Rattle.writer.specs.Contract.{overwritten, Bytes, ReadAs, Wrote}
+use Rattle.trace.specs.Numbers.{Bytes}
+use Rattle.writer.specs.Contract.{ReadAs}
 use Rattle.checker.specs.Events.{place, events}
 use Rattle.checker.specs.Call.{Lent, Left}
 use Rattle.checker.specs.Contract.{Contract}
-use Rattle.checker.proofs.Laws.{accepted-read, accepted-whole}
-use Rattle.checker.proofs.Stopping.{first-place}
+use Rattle.checker.proofs.Laws.{starts-at-0, accepted-read, accepted-whole}
 use Rattle.zobukwami.specs.AcceptedAgain.{listed, AcceptedAgain}
 
 module _ (l : Lent) (r : Left) (contract : Contract l r) where
@@ -29,27 +27,16 @@ module _ (l : Lent) (r : Left) (contract : Contract l r) where
             (read-as-listed n (suc k) (omega arith)),
       )
 
-  part : Bytes (l .trace) → (before : List ℕ) (at : ℕ) → at + r .answer .offset ≤ length before → (w : Written) (after : List ℕ)
-      → Wrote (listed (events (l .trace)) 0 (r .answer .events)) before at w after
-      → (w .code ≡ 0) × (w .next ≡ at + r .answer .offset) × (after ≡ overwritten before at (take (r .answer .offset) (l .trace)))
-  part bytes before at inside w after wrote =
-      let n = r .answer .events in
-      let whole : 0 + n ≡ n = omega arith in
-      let end : place (l .trace) (0 + n) ≡ r .answer .offset = ap (place (l .trace)) whole ∙ sym (contract .demand1 .offset) in
-      let read : ReadAs (l .trace) 0 (listed (events (l .trace)) 0 n) (r .answer .offset) =
-      subst (λ (from : ℕ). ReadAs (l .trace) from (listed (events (l .trace)) 0 n) (r .answer .offset)) (first-place (l .trace))
-      (rw (← end) (read-as-listed n 0 (omega arith))) in
-      let long : r .answer .offset - 0 ≡ r .answer .offset = omega arith in
-      rw long at (wrote .written-again (l .trace) 0 (r .answer .offset) bytes read (omega arith))
-
   pub accepted-again : Bytes (l .trace) → AcceptedAgain l r
   accepted-again bytes = record {
-    part-again = part bytes;
-    whole-again = λ before at none inside w after wrote.
-        let all : r .answer .offset ≡ length (l .trace) = accepted-whole l r contract none in
-        let again = part bytes before at (omega arith) w after wrote in (
-          again .0,
-          again .1 ∙ ap (_+_ at) all,
-          again .2 ∙ ap (λ (n : ℕ). overwritten before at (take n (l .trace))) all ∙ ap (overwritten before at) (take-length (l .trace)),
-        );
+    again = λ before at inside w after wrote.
+        let n = r .answer .events in
+        let first : 0 + n ≡ n = omega arith in
+        let end : place (l .trace) (0 + n) ≡ r .answer .offset = ap (place (l .trace)) first ∙ sym (contract .demand1 .offset) in
+        let read : ReadAs (l .trace) 0 (listed (events (l .trace)) 0 n) (r .answer .offset) =
+        subst (λ (from : ℕ). ReadAs (l .trace) from (listed (events (l .trace)) 0 n) (r .answer .offset)) (starts-at-0 (l .trace))
+        (rw (← end) (read-as-listed n 0 (omega arith))) in
+        let long : r .answer .offset - 0 ≡ r .answer .offset = omega arith in
+        rw long at (wrote .written-again (l .trace) 0 (r .answer .offset) bytes read (omega arith));
+    whole = λ none. ap (λ (n : ℕ). take n (l .trace)) (accepted-whole l r contract none) ∙ take-length (l .trace);
   }

@@ -17,9 +17,7 @@ listed t k (suc n) = t k ∷ listed t (suc k) n
 -- The accepted part of a trace is its first `offset` bytes, which hold `events` events, as the checker's answer has it. Whoever writes these events
 -- where they fit is not refused, and writes that part. With code 0 it is the whole trace.
 pub record AcceptedAgain (l : Lent) (r : Left) : Type 0 where
-  pub part-again : (before : List ℕ) (at : ℕ) → at + r .answer .offset ≤ length before → (w : Written) (after : List ℕ)
+  pub again : (before : List ℕ) (at : ℕ) → at + r .answer .offset ≤ length before → (w : Written) (after : List ℕ)
       → Wrote (listed (events (l .trace)) 0 (r .answer .events)) before at w after
       → (w .code ≡ 0) × (w .next ≡ at + r .answer .offset) × (after ≡ overwritten before at (take (r .answer .offset) (l .trace)))
-  pub whole-again : (before : List ℕ) (at : ℕ) → r .answer .code ≡ 0 → at + length (l .trace) ≤ length before → (w : Written) (after : List ℕ)
-      → Wrote (listed (events (l .trace)) 0 (r .answer .events)) before at w after
-      → (w .code ≡ 0) × (w .next ≡ at + length (l .trace)) × (after ≡ overwritten before at (l .trace))
+  pub whole : r .answer .code ≡ 0 → take (r .answer .offset) (l .trace) ≡ l .trace

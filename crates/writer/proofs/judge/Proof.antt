@@ -8,14 +8,14 @@ use Rattle.writer.proofs.Groups.{number-small}
 use Rattle.writer.proofs.judge.Statement.{statement}
 use Rattle.writer.proofs.judge.Tie as tie
 
-largest-operand-requires : tie.Need-largest-operand-requires
-largest-operand-requires c κs = search needs
-
 refused-requires : tie.Need-refused-requires
 refused-requires c κs = search needs
 
 returns : tie.Need-returns
 returns c = judged-kind _ _ _ _ _ (c .refused .ensures) (search needs)
+
+largest-operand-requires : tie.Need-largest-operand-requires
+largest-operand-requires c κs = search needs
 
 refused-requires-2 : tie.Need-refused-requires-2
 refused-requires-2 c κs = search needs
@@ -57,9 +57,9 @@ pub judge-spec : {M : Type 1} → statement M
 judge-spec =
     tie.close
     (tie.spec
-    largest-operand-requires
     refused-requires
     returns
+    largest-operand-requires
     refused-requires-2
     returns-2
     refused-requires-3

@@ -1,28 +1,25 @@
--- `writer::put_all` meets its contract. The loop's invariant: the events left, stored from the next place on, make the whole list (`Writing`). It
--- goes round once an event. Assumes nothing.
+-- `writer::put_first` meets its contract. The loop's invariant: the events left, stored from the next place on, make the whole (`Writing`). It goes
+-- round once an event. Assumes nothing.
 use Prim.Native.Nat.{_-_}
 use borrow.Author.Needs.{needs}
 use Rattle.writer.proofs.Lists.{Writing, writing-begins, writing-passes, writing-goes-on, writing-ends}
-use Rattle.writer.proofs.put_all.Statement.{statement}
-use Rattle.writer.proofs.put_all.Tie as tie
+use Rattle.writer.proofs.put_first.Statement.{statement}
+use Rattle.writer.proofs.put_first.Tie as tie
 
 abbrev Inv-loop : tie.InvT-loop
-Inv-loop buffer₀ at events count next₀ i₀ buffer next i = Writing buffer₀ at events buffer next i
+Inv-loop buffer₀ at events count next₀ i₀ buffer next i = Writing buffer₀ at events count buffer next i
 
 abbrev μ-loop : tie.MeasureT-loop
 μ-loop buffer₀ at events count next₀ i₀ buffer next i = count - i
 
-count-of-requires : tie.Need-count-of-requires Inv-loop μ-loop
-count-of-requires c κs = search needs
-
 loop-holds : tie.Need-loop-holds Inv-loop μ-loop
-loop-holds c = writing-begins _ _ _ (search needs)
+loop-holds c = writing-begins _ _ _ _ (search needs)
 
 event-at-requires : tie.Need-event-at-requires Inv-loop μ-loop
 event-at-requires c κs = search needs
 
 put-requires : tie.Need-put-requires Inv-loop μ-loop
-put-requires c κs = writing-passes (c .before .before .before .loop .inv) (search needs) (c .event-at .ensures)
+put-requires c κs = writing-passes (c .before .before .before .loop .inv) (search needs) (search needs) (c .event-at .ensures)
 
 add-i : tie.Need-add-i Inv-loop μ-loop
 add-i c = search needs
@@ -32,7 +29,7 @@ loop-less c = search needs
 
 loop-again : tie.Need-loop-again Inv-loop μ-loop
 loop-again c =
-    writing-goes-on (c .before .before .before .before .before .before .loop .inv) (search needs) (c .before .before .before .event-at .ensures)
+    writing-goes-on (c .before .before .before .before .before .before .loop .inv) (search needs) (search needs) (c .before .before .before .event-at .ensures)
     (c .before .before .put .ensures)
 
 same-length : tie.Need-same-length Inv-loop μ-loop
@@ -41,13 +38,12 @@ same-length c = c .before .loop .inv .long
 returns : tie.Need-returns Inv-loop μ-loop
 returns c = writing-ends (c .before .loop .inv) (search needs) (search needs)
 
-pub put-all-spec : {M : Type 1} → statement M
-put-all-spec =
+pub put-first-spec : {M : Type 1} → statement M
+put-first-spec =
     tie.close
     (tie.spec
     Inv-loop
     μ-loop
-    count-of-requires
     loop-holds
     event-at-requires
     put-requires
