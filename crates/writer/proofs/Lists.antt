@@ -123,7 +123,7 @@ module _ {room at : ℕ} {numbers : List ℕ} {next i : ℕ} (j : Judging room a
     pub judging-stops : code ≢ 0 → AllJudged room at numbers (record { written = record { code = code; next = at }; passed = i })
     judging-stops = stopped e (eventsFrom numbers (i + 1)) code next′ (begins-with numbers i e there is) judged
 
-  -- a last kind without an operand is
+  -- a last kind without an operand is judged
   pub judging-ends-alone : length numbers ≡ 2 * i + 1 → {e : Event} → e ≡ lastAlone numbers i → {code next′ : ℕ} → JudgedEvent room next e code next′
       → AllJudged room at numbers (record { written = record { code = code; next = at }; passed = i })
   judging-ends-alone end {e} is {code} {next′} judged =
