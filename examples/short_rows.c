@@ -1,7 +1,7 @@
 /* The request's own case as a program: a short row generator splits the back of a bear, spawns the halves, and lets
    them share one row table under locks. It is run serially, as a Cilk program is when its trace is recorded, and the
-   trace is checked. First comes the generator as it was when it knitted a shelf, then the corrected one. Run serially,
-   both come out right. */
+   trace is checked. First comes a generator with a fault that can leave a row of length zero, then the corrected one.
+   Run serially, both come out right. */
 #include "recorder.h"
 
 #include <inttypes.h>

@@ -8,7 +8,7 @@ use Rattle.trace.specs.declared.Refusal.the-variants.{BytesEnd, FormLong
 use Rattle.trace.specs.declared.Number.{Number}
 use Rattle.trace.specs.declared.Number.the-variants.{Value, Broken}
 
--- Bytes: what is said of the form of a number holds of these.
+-- These numbers are bytes: each is below 256. Only of such is it said that a number has one form.
 abbrev pub Bytes : List ℕ → Type 0
 Bytes trace = (i : ℕ) → getD trace i 0 < 256
 

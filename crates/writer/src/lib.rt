@@ -23,7 +23,8 @@ pub struct Written {
     pub next: usize,
 }
 
-// Why an event is refused: for its kind, for its operand, or because its bytes don't fit.
+// Why an event or a list is refused: for a kind, for an operand, or because the bytes don't fit or the place lies past
+// the end.
 enum Why {
     Kind,
     Operand,
