@@ -1,12 +1,15 @@
--- What the definitions say of small lists, by evaluation. Each must-fail edit gets one of these wrong. Assumes nothing.
+-- What the definitions say of small lists, by evaluation. Each must-fail edit gets a row of the table wrong. Assumes nothing.
 use Prim.Native.Nat.{ℕ}
 use mathlib.Core.Path.{_≡_, refl}
 use mathlib.Core.List.{List, [], _∷_, map}
 use lib.ListN.{length}
+use Rattle.trace.specs.declared.Event.{Event}
+use Rattle.trace.specs.Numbers.{value, followed, numberOf, numberAt}
 use Rattle.trace.specs.Kinds.{entry}
+use Rattle.trace.specs.Events.{judged, readingAt}
 use Rattle.writer.specs.Form.{groups, bytesOf, bytesOfAll}
-use Rattle.writer.specs.Lists.{eventsIn}
-use Rattle.writer.specs.Contract.{eventCode, listCode, nextPlace, bufferAfter}
+use Rattle.writer.specs.Lists.{eventsIn, numbersOf}
+use Rattle.writer.specs.Contract.{eventCode, listCode, nextPlace, bufferAfter, ReadAs}
 
 -- The numbers of the events, the buffer and the place that are lent, and the code, the next place and the buffer that are given and left.
 abbrev Row : Type 0
@@ -55,3 +58,15 @@ table =
 pub all-as-known : map done table ≡ table
 unfolding entry groups bytesOf bytesOfAll eventsIn eventCode listCode nextPlace bufferAfter
 all-as-known = refl
+
+-- Write 4,095 and a return, after a byte and before another: how they are lent, and that they are read from place 1 up to 5.
+abbrev two : List Event
+two = record { kind = 6; operand = 4095 } ∷ record { kind = 1; operand = 0 } ∷ []
+
+pub two-lent : numbersOf two ≡ 6 ∷ 4095 ∷ 1 ∷ 0 ∷ []
+unfolding numbersOf
+two-lent = refl
+
+pub two-read : ReadAs (x ∷ 0xFE ∷ 0xFF ∷ 0x01 ∷ 0x01 ∷ x ∷ []) 1 two 5
+unfolding ReadAs value followed numberOf numberAt entry judged readingAt
+two-read = (4, refl, (5, refl, refl))

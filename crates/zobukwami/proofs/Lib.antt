@@ -1,2 +1,3 @@
 pub mod SameContract
 pub mod AcceptedAgain
+pub mod Examples
