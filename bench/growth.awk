@@ -1,4 +1,4 @@
-# Prints how the work of the library grows. The files are as those of workloads.awk, without times; where a name stands
+# Prints how the work of the library grows. The files are as those of beside.awk, without times; where a name stands
 # twice in a row, the first trace is taken off the second.
 FILENAME == ARGV[1] {
     instructions[FNR] = $3
