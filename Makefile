@@ -33,6 +33,16 @@ $(program) $(example): target/bin/%: examples/%.c include/zobukwami.h $(library)
 
 $(example): examples/recorder.h
 
+# Makes the calls for fire and the fuzzer.
+target/tests/caller: tests/fire/caller.c include/zobukwami.h $(library)
+	mkdir -p $(@D)
+	$(CC) -std=c11 -Iinclude $(CPPFLAGS) $(CFLAGS) $(LDFLAGS) -o $@ $< $(library)
+
+# The same with what does wrong in the library's place, and little time for a call.
+target/tests/wrong_caller: tests/fire/caller.c tests/fire/wrong.c include/zobukwami.h
+	mkdir -p $(@D)
+	$(CC) -std=c11 -Iinclude $(CPPFLAGS) $(CFLAGS) $(LDFLAGS) -DSECONDS=2 -o $@ $(filter %.c,$^)
+
 example: $(example)
 	@$(example)
 

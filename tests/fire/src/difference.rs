@@ -46,16 +46,21 @@ impl Difference {
         if self.expected == self.got && self.memories.is_empty() {
             return Ok(());
         }
-        let mut lines = vec![tried(case, lending)];
-        lines.push(format!("  expected {:?}", self.expected));
-        lines.push(format!("  got      {:?}", self.got));
+        let got = format!("{:?}", self.got);
+        let mut lines = vec![shown(case, lending, &self.expected, &got)];
         lines.extend(self.memories);
         Err(lines.join("\n"))
     }
 }
 
+/// The call, and two lines more: what it had to give and what came of it.
+pub fn shown(case: &Case, lending: &Lending, expected: &Answer, got: &str) -> String {
+    let tried = tried(case, lending);
+    format!("{tried}\n  expected {expected:?}\n  got      {got}")
+}
+
 /// The call: its trace, or of a long one only the name, and what was lent.
-pub fn tried(case: &Case, lending: &Lending) -> String {
+fn tried(case: &Case, lending: &Lending) -> String {
     const MOST_SHOWN: usize = 2_000;
     let (name, bytes) = (&case.name, case.trace.len());
     let trace = if bytes <= MOST_SHOWN {

@@ -31,7 +31,8 @@ pub fn mark(bytes: &mut [u8], random: &mut Random) {
     fill(bytes, || random.next_number() | NO_BYTE_ZERO);
 }
 
-/// Puts dirt into the part of a piece that is used.
+/// Puts dirt into the part of a piece that is used. The piece is the number of
+/// its memory.
 pub fn put(dirt: Dirt, piece: usize, used: &mut [u8], random: &mut Random) {
     match dirt {
         Dirt::Zeros => used.fill(0),
@@ -47,11 +48,12 @@ pub fn put(dirt: Dirt, piece: usize, used: &mut [u8], random: &mut Random) {
 }
 
 fn fill(bytes: &mut [u8], mut next: impl FnMut() -> u64) {
-    let (eights, rest) = bytes.as_chunks_mut::<8>();
-    for eight in eights {
-        *eight = next().to_ne_bytes();
+    let mut eights = bytes.chunks_exact_mut(8);
+    for eight in &mut eights {
+        eight.copy_from_slice(&next().to_le_bytes());
     }
-    rest.copy_from_slice(&next().to_ne_bytes()[..rest.len()]);
+    let rest = eights.into_remainder();
+    rest.copy_from_slice(&next().to_le_bytes()[..rest.len()]);
 }
 
 fn looks_alive(name: &str, place: usize, random: &mut Random) -> u64 {
@@ -70,6 +72,7 @@ fn looks_alive(name: &str, place: usize, random: &mut Random) -> u64 {
 #[cfg(test)]
 mod tests {
     use super::*;
+    use crate::lending::FIRST_PIECE;
 
     #[test]
     fn no_byte_of_a_mark_is_zero() {
@@ -80,7 +83,7 @@ mod tests {
 
     #[test]
     fn every_kind_of_dirt_goes_to_the_last_number() {
-        for (piece, width) in WIDTHS.into_iter().enumerate() {
+        for (piece, width) in WIDTHS.into_iter().enumerate().skip(FIRST_PIECE) {
             let mut seen = Vec::new();
             for dirt in Dirt::ALL {
                 let mut used = vec![0xAA; PIECE * width];
@@ -96,7 +99,8 @@ mod tests {
     #[test]
     fn what_looks_alive_leads_to_entries() {
         let mut heads = vec![0; PIECE * 4];
-        put(Dirt::LooksAlive, 0, &mut heads, &mut Random::from_seed(3));
+        let random = &mut Random::from_seed(3);
+        put(Dirt::LooksAlive, FIRST_PIECE, &mut heads, random);
         assert!(heads
             .chunks_exact(4)
             .map(numbers::read)

@@ -2,11 +2,9 @@
 //! should, or one thing wrong.
 
 use super::*;
-use crate::lending::ENDS;
+use crate::lending::{Place, ENDS};
 use second::call::call;
-use second::limits::PIECE;
-use std::cell::Cell;
-use std::slice::from_raw_parts_mut;
+use second::limits::PIECES;
 
 /// What the stand-in does wrong.
 #[derive(Clone, Copy)]
@@ -14,63 +12,69 @@ enum Fault {
     Nothing,
     /// A number returned.
     Returned(fn(&mut Answer)),
-    /// A byte of a memory, so many bytes from the first one that is lent: the
-    /// report is memory 0, the pieces follow.
+    /// A byte of a memory, so many bytes from the first one that is lent.
     Touched(usize, isize),
 }
 
-thread_local! {
-    static FAULT: Cell<Fault> = const { Cell::new(Fault::Nothing) };
+struct StandIn {
+    fault: Fault,
 }
 
-#[rustfmt::skip]
-unsafe extern "C" fn stand_in(
-    trace: *const u8, trace_length: usize,
-    report: *mut u32, report_length: usize,
-    heads: *mut u32, heads_length: usize,
-    links: *mut u32, links_length: usize,
-    events: *mut u32, events_length: usize,
-    procedures: *mut u32, procedures_length: usize,
-    sets: *mut u64, sets_length: usize,
-    starts: *mut u32, starts_length: usize,
-    joins: *mut u32, joins_length: usize,
-) -> Answer {
-    let pieces = [
-        heads, links, events, procedures, sets.cast(), starts, joins,
-    ].map(|piece| piece.cast::<u8>());
-    let lengths = [
-        heads_length, links_length, events_length, procedures_length, sets_length, starts_length,
-        joins_length,
-    ];
-    let outcome = if room::is_too_short(&lengths) {
-        room::refused()
-    } else if trace_length == 0 {
-        call(&[])
-    } else {
-        call(std::slice::from_raw_parts(trace, trace_length))
-    };
-    if !outcome.entries.is_empty() && report_length > 0 {
-        fill_report(&outcome, from_raw_parts_mut(report, report_length));
-    }
-    if outcome.code != 1 && outcome.code != 2 {
-        for (number, piece) in pieces.into_iter().enumerate() {
-            let bytes = from_raw_parts_mut(piece, lengths[number] * WIDTHS[number]);
-            room::leave_piece(&outcome, bytes, WIDTHS[number]);
+impl Library for StandIn {
+    fn call(
+        &mut self,
+        memories: &mut [Shared; MEMORIES],
+        lent: &[Lent; MEMORIES],
+        _: bool,
+    ) -> Result<Answer, String> {
+        let ranges: [Range<usize>; MEMORIES] = std::array::from_fn(|number| {
+            lent[number].range(memories[number].length(), WIDTHS[number])
+        });
+        let lengths = lent.map(|lent| lent.length);
+        let outcome = if room::is_too_short(&lengths[FIRST_PIECE..]) {
+            room::refused()
+        } else {
+            call(&memories[TRACE].bytes()[ranges[TRACE].clone()])
+        };
+        leave_report(
+            &outcome,
+            &mut memories[REPORT].bytes_mut()[ranges[REPORT].clone()],
+        );
+        for piece in FIRST_PIECE..MEMORIES {
+            let bytes = &mut memories[piece].bytes_mut()[ranges[piece].clone()];
+            room::leave_piece(&outcome, bytes, WIDTHS[piece]);
         }
+        let mut answer = Answer::of(&outcome);
+        match self.fault {
+            Fault::Nothing => {}
+            Fault::Returned(change) => change(&mut answer),
+            Fault::Touched(memory, place) => {
+                let byte = ranges[memory].start.wrapping_add_signed(place);
+                memories[memory].bytes_mut()[byte] ^= 1;
+            }
+        }
+        Ok(answer)
     }
-    let mut answer = Answer::of(&outcome);
-    match FAULT.get() {
-        Fault::Nothing => {}
-        Fault::Returned(change) => change(&mut answer),
-        Fault::Touched(0, place) => *report.cast::<u8>().offset(place) ^= 1,
-        Fault::Touched(memory, place) => *pieces[memory - 1].offset(place) ^= 1,
-    }
-    answer
 }
 
-fn caught(lender: &mut Lender, case: &Case, lending: &Lending, fault: Fault) -> bool {
-    FAULT.set(fault);
-    lender.call(case, lending).is_err()
+fn lender() -> Lender<StandIn> {
+    let fault = Fault::Nothing;
+    Lender::new(|_| Ok(StandIn { fault })).expect("it needs no start")
+}
+
+/// What a call shows where this is wrong.
+fn found(
+    lender: &mut Lender<StandIn>,
+    case: &Case,
+    lending: &Lending,
+    fault: Fault,
+) -> Option<String> {
+    lender.library.fault = fault;
+    lender.call(case, lending).err()
+}
+
+fn caught(lender: &mut Lender<StandIn>, case: &Case, lending: &Lending, fault: Fault) -> bool {
+    found(lender, case, lending, fault).is_some()
 }
 
 /// Two races: entries 0 1 3 and 0 1 4.
@@ -80,7 +84,7 @@ fn two_races() -> Case {
 
 #[test]
 fn what_is_right_is_let_pass() {
-    let mut lender = Lender::new(stand_in);
+    let mut lender = lender();
     for number in 0..300 {
         let case = Case::generated(1, number);
         let lending = Lending::any(&mut Random::from_seed(number));
@@ -98,7 +102,7 @@ fn every_number_returned_is_compared() {
         |answer| answer.visits += 1 << 32,
         |answer| answer.most += 1,
     ];
-    let mut lender = Lender::new(stand_in);
+    let mut lender = lender();
     for fault in faults {
         let (case, lending) = (two_races(), Lending::exact(6));
         assert!(caught(&mut lender, &case, &lending, Fault::Returned(fault)));
@@ -109,9 +113,8 @@ fn every_number_returned_is_compared() {
 /// In each memory the first byte lent, the last, and the nearest that is not.
 fn touches(lending: &Lending, place: Place) -> Vec<Fault> {
     let mut faults = Vec::new();
-    let pieces = lending.pieces.iter().zip(WIDTHS);
-    let memories = [(&lending.report, REPORT_WIDTH)].into_iter().chain(pieces);
-    for (memory, (lent, width)) in memories.enumerate() {
+    let lent = lending.memories(two_races().trace.len());
+    for (memory, (lent, width)) in lent.iter().zip(WIDTHS).enumerate() {
         let bytes = (lent.length * width) as isize;
         let not_lent = if place == Place::Before { -1 } else { bytes };
         for byte in [0, bytes - 1, not_lent] {
@@ -123,12 +126,12 @@ fn touches(lending: &Lending, place: Place) -> Vec<Fault> {
 
 #[test]
 fn every_byte_that_is_lent_or_near_is_compared() {
-    let mut lender = Lender::new(stand_in);
+    let mut lender = lender();
     // Long enough, so that the last bytes are to be left alone; and too short.
     for length in [PIECE + 1, PIECE - 1] {
         for place in ENDS {
             let mut lending = Lending::exact(8);
-            lending.report.place = place;
+            (lending.trace, lending.report.place) = (place, place);
             lending.pieces = [Lent { length, place }; PIECES];
             let case = two_races();
             for fault in touches(&lending, place) {
@@ -141,32 +144,35 @@ fn every_byte_that_is_lent_or_near_is_compared() {
 
 #[test]
 fn the_last_used_number_and_the_first_not_used_are_told_apart() {
-    let mut lender = Lender::new(stand_in);
+    let mut lender = lender();
     let mut lending = Lending::exact(8);
     lending
         .pieces
         .iter_mut()
         .for_each(|piece| piece.length += 9);
-    for (number, width) in WIDTHS.into_iter().enumerate() {
+    for (piece, width) in WIDTHS.into_iter().enumerate().skip(FIRST_PIECE) {
         let used = (PIECE * width) as isize;
         for byte in [used - 1, used] {
-            let fault = Fault::Touched(number + 1, byte);
+            let fault = Fault::Touched(piece, byte);
             assert!(caught(&mut lender, &two_races(), &lending, fault));
         }
     }
     // Of the report the two entries are written, and the rest of two is not.
     for byte in [0, 23, 24, 31] {
-        let fault = Fault::Touched(0, byte);
+        let fault = Fault::Touched(REPORT, byte);
         assert!(caught(&mut lender, &two_races(), &lending, fault));
     }
 }
 
 #[test]
 fn a_difference_shows_the_trace_what_was_lent_and_both_outcomes() {
-    FAULT.set(Fault::Touched(2, 16));
-    let text = Lender::new(stand_in)
-        .call(&two_races(), &Lending::exact(7))
-        .unwrap_err();
+    const LINKS: usize = FIRST_PIECE + 1;
+    let mut lending = Lending::exact(7);
+    let shown = |lending: &Lending, byte| {
+        let fault = Fault::Touched(LINKS, byte);
+        found(&mut lender(), &two_races(), lending, fault).expect("a difference")
+    };
+    let text = shown(&lending, 16);
     for part in [
         "two races\n  trace    00 06 01 06 06 01\n",
         "report 7 before a protected page",
@@ -177,11 +183,7 @@ fn a_difference_shows_the_trace_what_was_lent_and_both_outcomes() {
     ] {
         assert!(text.contains(part), "{part} is not in {text}");
     }
-    FAULT.set(Fault::Touched(2, -1));
-    let mut lending = Lending::exact(7);
-    lending.pieces[1].length += 1;
-    let text = Lender::new(stand_in)
-        .call(&two_races(), &lending)
-        .unwrap_err();
+    lending.pieces[LINKS - FIRST_PIECE].length += 1;
+    let text = shown(&lending, -1);
     assert!(text.contains("links, not lent: byte -1 from"), "{text}");
 }

@@ -5,9 +5,18 @@ use crate::dirt::Dirt;
 use second::limits::{PIECE, PIECES};
 use second::random::Random;
 use std::fmt;
+use std::ops::Range;
 
-/// The pieces of working room, in the order of the call.
-pub const NAMES: [&str; PIECES] = [
+/// The memories of a call by number, in its order: the trace, the report and the
+/// pieces of working room.
+pub const TRACE: usize = 0;
+pub const REPORT: usize = 1;
+pub const FIRST_PIECE: usize = 2;
+pub const MEMORIES: usize = FIRST_PIECE + PIECES;
+
+pub const NAMES: [&str; MEMORIES] = [
+    "trace",
+    "report",
     "heads",
     "links",
     "events",
@@ -17,11 +26,8 @@ pub const NAMES: [&str; PIECES] = [
     "joins",
 ];
 
-/// Of how many bytes the numbers of each piece are.
-pub const WIDTHS: [usize; PIECES] = [4, 4, 4, 4, 8, 4, 4];
-
-/// Of how many bytes the numbers of the report are.
-pub const REPORT_WIDTH: usize = 4;
+/// Of how many bytes the numbers of each memory are.
+pub const WIDTHS: [usize; MEMORIES] = [1, 4, 4, 4, 4, 4, 8, 4, 4];
 
 /// Where lent numbers lie.
 #[derive(Clone, Copy, PartialEq, Eq, Debug)]
@@ -48,6 +54,20 @@ impl Lent {
         length: 0,
         place: Place::Null,
     };
+
+    /// Which bytes these are in a memory of so many, with numbers of this width.
+    pub fn range(&self, memory: usize, width: usize) -> Range<usize> {
+        let bytes = self.length * width;
+        let first = match self.place {
+            Place::After => 0,
+            Place::Before => memory - bytes,
+            Place::Null => {
+                assert_eq!(bytes, 0, "NULL leads to nothing");
+                0
+            }
+        };
+        first..first + bytes
+    }
 }
 
 impl fmt::Display for Lent {
@@ -112,6 +132,28 @@ impl Lending {
     pub fn lengths(&self) -> [usize; PIECES] {
         self.pieces.map(|piece| piece.length)
     }
+
+    /// Lays one memory at a place.
+    pub fn lay(&mut self, memory: usize, place: Place) {
+        match memory {
+            TRACE => self.trace = place,
+            REPORT => self.report.place = place,
+            piece => self.pieces[piece - FIRST_PIECE].place = place,
+        }
+    }
+
+    /// What is lent of each memory, with a trace of so many bytes.
+    pub fn memories(&self, trace_length: usize) -> [Lent; MEMORIES] {
+        let trace = Lent {
+            length: trace_length,
+            place: self.trace,
+        };
+        std::array::from_fn(|memory| match memory {
+            TRACE => trace,
+            REPORT => self.report,
+            piece => self.pieces[piece - FIRST_PIECE],
+        })
+    }
 }
 
 impl fmt::Display for Lending {
@@ -120,7 +162,7 @@ impl fmt::Display for Lending {
         let (dirt, seed) = (self.dirt, self.seed);
         write!(to, "pages {pages}, dirt {dirt:?} of seed {seed}")?;
         write!(to, ", trace {:?}, report {}", self.trace, self.report)?;
-        for (name, piece) in NAMES.iter().zip(&self.pieces) {
+        for (name, piece) in NAMES[FIRST_PIECE..].iter().zip(&self.pieces) {
             write!(to, ", {name} {piece}")?;
         }
         Ok(())

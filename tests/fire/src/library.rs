@@ -1,9 +1,11 @@
-//! The C interface, as `include/zobukwami.h` declares it.
+//! The library, as far as the comparison has to know it: who makes a call of
+//! `include/zobukwami.h`, and what that returns.
 
+use crate::lending::{Lent, MEMORIES};
+use crate::shared::Shared;
 use second::call::Outcome;
 
 /// "it returns: code; events accepted; offset; races; visits; most".
-#[repr(C)]
 #[derive(Clone, Copy, PartialEq, Eq, Debug)]
 pub struct Answer {
     pub code: u32,
@@ -17,60 +19,39 @@ pub struct Answer {
 impl Answer {
     /// The numbers that the second program returns.
     pub fn of(outcome: &Outcome) -> Answer {
-        let narrow = |number: usize| u32::try_from(number).expect("a count below 2^32");
+        Answer::of_numbers([
+            u64::from(outcome.code),
+            outcome.events as u64,
+            outcome.offset as u64,
+            outcome.races as u64,
+            outcome.visits as u64,
+            u64::from(outcome.most),
+        ])
+    }
+
+    /// The numbers in their order.
+    pub fn of_numbers([code, events, offset, races, visits, most]: [u64; 6]) -> Answer {
+        let narrow = |number: u64| u32::try_from(number).expect("a number below 2^32");
         Answer {
-            code: outcome.code,
-            events: narrow(outcome.events),
-            offset: outcome.offset,
-            races: narrow(outcome.races),
-            visits: outcome.visits as u64,
-            most: outcome.most,
+            code: narrow(code),
+            events: narrow(events),
+            offset: usize::try_from(offset).expect("a place in memory"),
+            races: narrow(races),
+            visits,
+            most: narrow(most),
         }
     }
 }
 
-/// The type of `zobukwami_check`: each pointer is followed by how many bytes or
-/// numbers it leads to.
-pub type Check = unsafe extern "C" fn(
-    trace: *const u8,
-    trace_length: usize,
-    report: *mut u32,
-    report_length: usize,
-    heads: *mut u32,
-    heads_length: usize,
-    links: *mut u32,
-    links_length: usize,
-    events: *mut u32,
-    events_length: usize,
-    procedures: *mut u32,
-    procedures_length: usize,
-    sets: *mut u64,
-    sets_length: usize,
-    starts: *mut u32,
-    starts_length: usize,
-    joins: *mut u32,
-    joins_length: usize,
-) -> Answer;
-
-extern "C" {
-    pub fn zobukwami_check(
-        trace: *const u8,
-        trace_length: usize,
-        report: *mut u32,
-        report_length: usize,
-        heads: *mut u32,
-        heads_length: usize,
-        links: *mut u32,
-        links_length: usize,
-        events: *mut u32,
-        events_length: usize,
-        procedures: *mut u32,
-        procedures_length: usize,
-        sets: *mut u64,
-        sets_length: usize,
-        starts: *mut u32,
-        starts_length: usize,
-        joins: *mut u32,
-        joins_length: usize,
-    ) -> Answer;
+/// Who makes the calls.
+pub trait Library {
+    /// One call, lent a part of each memory: what it returned, or in words how
+    /// it ended instead. Where the pages are closed, nothing that is lent may be
+    /// touched.
+    fn call(
+        &mut self,
+        memories: &mut [Shared; MEMORIES],
+        lent: &[Lent; MEMORIES],
+        closed: bool,
+    ) -> Result<Answer, String>;
 }

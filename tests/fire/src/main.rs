@@ -1,18 +1,15 @@
 //! Tries the library in every way that `checks` names, and says how often.
 
+mod asked;
 mod checks;
 mod run;
 mod samples;
-mod watch;
 
-use checks::{CHECKS, MANY_VISITS};
+use asked::{Asked, USAGE};
 use run::Run;
 use samples::{checked, Samples};
 use second::vectors;
 use std::process::ExitCode;
-
-const USAGE: &str = "usage:
-  fire --vectors FILE --seed S --count N [--visits]";
 
 const FAILED: u8 = 1;
 const WRONG_USE: u8 = 2;
@@ -20,15 +17,11 @@ const WRONG_USE: u8 = 2;
 fn main() -> ExitCode {
     let arguments: Vec<String> = std::env::args().skip(1).collect();
     let words: Vec<&str> = arguments.iter().map(String::as_str).collect();
-    let (["--vectors", file, "--seed", seed, "--count", count]
-    | ["--vectors", file, "--seed", seed, "--count", count, "--visits"]) = words[..]
-    else {
-        return wrong_use();
+    let Some(asked) = Asked::by(&words) else {
+        eprintln!("{USAGE}");
+        return ExitCode::from(WRONG_USE);
     };
-    let (Ok(seed), Ok(count)) = (seed.parse(), count.parse()) else {
-        return wrong_use();
-    };
-    match try_all(file, Run::new(seed, count), words.contains(&"--visits")) {
+    match try_all(&asked) {
         Ok(()) => ExitCode::SUCCESS,
         Err(wrong) => {
             eprintln!("{wrong}");
@@ -37,19 +30,14 @@ fn main() -> ExitCode {
     }
 }
 
-fn wrong_use() -> ExitCode {
-    eprintln!("{USAGE}");
-    ExitCode::from(WRONG_USE)
-}
-
 /// Goes through all checks, and stops at the first difference.
-fn try_all(file: &str, mut run: Run, with_visits: bool) -> Result<(), String> {
+fn try_all(asked: &Asked) -> Result<(), String> {
+    let file = asked.vectors;
     let text = std::fs::read_to_string(file).map_err(|error| format!("{file}: {error}"))?;
     let vectors = vectors::read(&text).map_err(|wrong| format!("{file}: {wrong}"))?;
+    let mut run = Run::new(asked.seed, asked.count)?;
     let samples = checked(Samples::of(&vectors, run.seed))?;
-    watch::begin();
-    let visits = with_visits.then_some(MANY_VISITS);
-    for check in CHECKS.into_iter().chain(visits) {
+    for check in &asked.checks {
         let before = run.calls;
         (check.run)(&mut run, &samples).map_err(|wrong| format!("{}: {wrong}", check.name))?;
         let calls = run.calls - before;
@@ -58,7 +46,8 @@ fn try_all(file: &str, mut run: Run, with_visits: bool) -> Result<(), String> {
         }
         println!("{}: {calls} calls", check.name);
     }
-    if let Some(code) = run.missing_code() {
+    // The codes are spread over all checks.
+    if let Some(code) = run.missing_code().filter(|_| !asked.only_named) {
         return Err(format!("no call gave code {code}"));
     }
     println!(

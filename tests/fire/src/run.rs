@@ -1,10 +1,9 @@
-//! The calls of a run: each is watched, compared and counted.
+//! The calls of a run: each is compared and counted.
 
-use crate::watch::watched;
+use fire::caller::Caller;
 use fire::case::Case;
 use fire::lender::Lender;
 use fire::lending::Lending;
-use fire::library::zobukwami_check;
 use second::codes::{Code, FROM_BYTES, ROOM_TOO_SHORT, TRACE_TOO_LONG};
 use second::tally::Tally;
 
@@ -14,23 +13,23 @@ pub struct Run {
     pub count: u64,
     pub calls: u64,
     pub codes: Tally,
-    lender: Lender,
+    lender: Lender<Caller>,
 }
 
 impl Run {
-    pub fn new(seed: u64, count: u64) -> Run {
-        Run {
+    pub fn new(seed: u64, count: u64) -> Result<Run, String> {
+        Ok(Run {
             seed,
             count,
             calls: 0,
             codes: Tally::default(),
-            lender: Lender::new(zobukwami_check),
-        }
+            lender: Lender::to_the_library()?,
+        })
     }
 
     /// One call, held against the second program.
     pub fn call(&mut self, case: &Case, lending: &Lending) -> Result<(), String> {
-        let code = watched(case, lending, || self.lender.call(case, lending))?;
+        let code = self.lender.call(case, lending)?;
         self.calls += 1;
         self.codes.count(code);
         Ok(())

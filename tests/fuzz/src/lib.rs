@@ -1,11 +1,11 @@
 //! What the fuzzer calls: its first bytes choose what is lent, the rest is the
 //! trace, and the comparison is that of `fire`.
 
+use fire::caller::Caller;
 use fire::case::Case;
 use fire::dirt::Dirt;
 use fire::lender::Lender;
 use fire::lending::{Lending, Lent, Place, ENDS};
-use fire::library::zobukwami_check;
 use second::limits::{PIECE, PIECES};
 use std::cell::RefCell;
 
@@ -14,7 +14,14 @@ use std::cell::RefCell;
 const HEAD: usize = 6;
 
 thread_local! {
-    static LENDER: RefCell<Lender> = RefCell::new(Lender::new(zobukwami_check));
+    static LENDER: RefCell<Lender<Caller>> =
+        RefCell::new(Lender::to_the_library().unwrap_or_else(|wrong| stopped(&wrong)));
+}
+
+/// Says what is wrong, and ends the program such that the fuzzer notices.
+fn stopped(wrong: &str) -> ! {
+    eprintln!("{wrong}");
+    std::process::abort()
 }
 
 /// # Safety
@@ -32,8 +39,7 @@ pub unsafe extern "C" fn LLVMFuzzerTestOneInput(data: *const u8, size: usize) ->
     let lending = chosen(head, trace.is_empty());
     let called = LENDER.with_borrow_mut(|lender| lender.call(&case, &lending));
     if let Err(wrong) = called {
-        eprintln!("{wrong}");
-        std::process::abort();
+        stopped(&wrong);
     }
     0
 }

@@ -3,14 +3,8 @@
 use crate::run::Run;
 use crate::samples::Samples;
 use fire::case::Case;
-use fire::lending::{Lending, Lent, Place, ENDS};
-use second::limits::{NUMBERS_OF_AN_ENTRY, PIECE, PIECES};
-
-/// The trace, the report and the pieces, by number.
-const TRACE: usize = 0;
-const REPORT: usize = 1;
-const FIRST_PIECE: usize = 2;
-const MEMORIES: usize = FIRST_PIECE + PIECES;
+use fire::lending::{Lending, Lent, Place, ENDS, FIRST_PIECE, MEMORIES, REPORT, TRACE};
+use second::limits::{NUMBERS_OF_AN_ENTRY, PIECE};
 
 /// Each of the nine memories at each end of its pages.
 pub fn flush(run: &mut Run, samples: &Samples) -> Result<(), String> {
@@ -35,23 +29,15 @@ fn at_each_end(lending: &Lending) -> Vec<Lending> {
     let mut lendings = Vec::new();
     for [end, other_end] in [ENDS, [ENDS[1], ENDS[0]]] {
         let mut all_at_one = lending.clone();
-        (0..MEMORIES).for_each(|memory| put(&mut all_at_one, memory, end));
+        (0..MEMORIES).for_each(|memory| all_at_one.lay(memory, end));
         for memory in 0..MEMORIES {
             let mut but_one = all_at_one.clone();
-            put(&mut but_one, memory, other_end);
+            but_one.lay(memory, other_end);
             lendings.push(but_one);
         }
         lendings.push(all_at_one);
     }
     lendings
-}
-
-fn put(lending: &mut Lending, memory: usize, place: Place) {
-    match memory {
-        TRACE => lending.trace = place,
-        REPORT => lending.report.place = place,
-        piece => lending.pieces[piece - FIRST_PIECE].place = place,
-    }
 }
 
 /// Every choice of memories that are NULL: code 1 if a piece is among them, and
