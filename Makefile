@@ -3,6 +3,10 @@
 PREFIX ?= /usr/local
 CFLAGS ?= -O2 -Wall -Wextra
 INSTALL ?= install
+# What the library is linked into is for x86-64, as the library is, whatever this machine has.
+ifeq ($(origin CC),default)
+CC := $(shell bash -c '. .ci/x86-64 && echo "$$compiler"')
+endif
 
 version := 0.2.0
 library := target/staticlib/libzobukwami.a
@@ -12,14 +16,25 @@ documents := share/doc/zobukwami
 crates := crates.txt $(shell find crates -name '*.rt' -o -name '*.antt')
 prefix = $(abspath $(PREFIX))
 to = $(DESTDIR)$(prefix)
+# pkg-config gives the prefix as words of a command line, where a blank would part it in two.
+ifneq ($(filter install uninstall,$(MAKECMDGOALS)),)
+ifneq ($(words $(prefix)),1)
+$(error PREFIX is '$(PREFIX)': choose a folder without a blank in its path)
+endif
+endif
 
-.PHONY: all example install uninstall test bench fuzz clean
+.PHONY: all compiler example install uninstall test bench fuzz clean
 .DELETE_ON_ERROR:
 
 all: $(library) $(program)
 
+# Before minutes of proof.
+compiler:
+	@.ci/needs rt
+	@.ci/needs compiler '$(CC)'
+
 # rt proves a crate and all that it stands on before it builds it, which takes minutes the first time.
-$(library): $(crates)
+$(library): $(crates) | compiler
 	rt staticlib zobukwami
 
 # A program that is proved already is not written anew. After the library, as only one rt may work at a time.
@@ -44,7 +59,7 @@ target/tests/wrong_caller: tests/fire/caller.c tests/fire/wrong.c include/zobukw
 	$(CC) -std=c11 -Iinclude $(CPPFLAGS) $(CFLAGS) $(LDFLAGS) -DSECONDS=2 -o $@ $(filter %.c,$^)
 
 example: $(example)
-	@$(example)
+	@.ci/x86-64 $(example)
 
 install: all
 	sed 's|@PREFIX@|$(prefix)|; s|@VERSION@|$(version)|' zobukwami.pc.in >target/zobukwami.pc
@@ -61,6 +76,7 @@ uninstall:
 	rm -rf '$(to)/$(documents)'
 
 test: all target/bin/racecheck
+	.ci/needs
 	.ci/c
 	.ci/second
 	.ci/fire

@@ -1,5 +1,6 @@
 //! The two ways of this program held against each other on random traces: all
-//! pairs against the kept lists, the definition against the bags.
+//! pairs against the kept lists, the definition against the bags; and the parts
+//! of a trace against the whole.
 
 use crate::access::Access;
 use crate::call::{call, examine, Examination, Outcome};
@@ -7,8 +8,8 @@ use crate::codes::{ACCEPTED, IN_NO_BAG, MAIN_NOT_RETURNED};
 use crate::generate::trace;
 use crate::hexadecimal;
 use crate::limits::LISTS;
-use crate::pairs;
 use crate::tally::Tally;
+use crate::{pairs, parts};
 use std::collections::BTreeSet;
 
 /// What came up over all traces.
@@ -59,6 +60,7 @@ pub fn check(trace: &[u8]) -> Result<Outcome, String> {
     visits_are_few(&found)?;
     sums_are_true(&found)?;
     accepted_part_stands(trace, &found)?;
+    parts::check(&trace[..found.outcome.offset], &found.outcome)?;
     Ok(found.outcome)
 }
 

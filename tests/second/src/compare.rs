@@ -93,8 +93,9 @@ impl Summary {
     }
 }
 
-/// Runs all traces: what came up, or what is wrong.
-pub fn run(program: &str, traces: &Traces) -> Result<Summary, String> {
+/// Runs all traces: what came up, or what is wrong. Words follow the program
+/// where it is an emulator.
+pub fn run(program: &str, words: &[&str], traces: &Traces) -> Result<Summary, String> {
     let next = AtomicU64::new(0);
     let summary = Mutex::new(Summary::default());
     let locked = || summary.lock().expect("no worker fails");
@@ -105,7 +106,7 @@ pub fn run(program: &str, traces: &Traces) -> Result<Summary, String> {
                 return Ok(());
             }
             let trial = traces.at(place);
-            let got = output(program, &trial.trace)?;
+            let got = output(program, words, &trial.trace)?;
             locked().add(place, &trial, &got);
         }
     };
@@ -132,8 +133,9 @@ pub fn written(summary: &Summary) -> String {
 }
 
 /// What the program writes on its standard output for one input.
-fn output(program: &str, input: &[u8]) -> Result<Vec<u8>, String> {
+fn output(program: &str, words: &[&str], input: &[u8]) -> Result<Vec<u8>, String> {
     let mut child = Command::new(program)
+        .args(words)
         .stdin(Stdio::piped())
         .stdout(Stdio::piped())
         .stderr(Stdio::null())
@@ -218,7 +220,7 @@ mod tests {
             seed: 1,
             count: 1,
         };
-        assert!(run("no-such-program-anywhere", &traces).is_err());
+        assert!(run("no-such-program-anywhere", &[], &traces).is_err());
     }
 
     #[test]

@@ -16,6 +16,7 @@ pub mod limits;
 pub mod numbers;
 pub mod pairs;
 pub mod parallel;
+pub mod parts;
 pub mod print;
 pub mod random;
 pub mod reading;

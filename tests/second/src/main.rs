@@ -9,7 +9,7 @@ const USAGE: &str = "usage:
   second vectors FILE
   second generate --seed S --number N
   second agree --seed S --count N
-  second compare PROGRAM --vectors FILE --seed S --count N";
+  second compare --vectors FILE --seed S --count N PROGRAM [WORDS]";
 
 const FAILED: u8 = 1;
 const WRONG_USE: u8 = 2;
@@ -22,9 +22,9 @@ fn main() -> ExitCode {
         ["vectors", file] => run_vectors(file),
         ["generate", "--seed", seed, "--number", number] => with_numbers(seed, number, write_trace),
         ["agree", "--seed", seed, "--count", count] => with_numbers(seed, count, run_agree),
-        ["compare", program, "--vectors", file, "--seed", seed, "--count", count] => {
+        ["compare", "--vectors", file, "--seed", seed, "--count", count, ref command @ ..] => {
             with_numbers(seed, count, |seed, count| {
-                run_compare(program, file, seed, count)
+                run_compare(command, file, seed, count)
             })
         }
         _ => None,
@@ -92,14 +92,15 @@ fn run_agree(seed: u64, count: u64) -> Done {
     Some(agree::run(seed, count).map(|summary| println!("{}", agree::written(&summary))))
 }
 
-fn run_compare(program: &str, file: &str, seed: u64, count: u64) -> Done {
+fn run_compare(command: &[&str], file: &str, seed: u64, count: u64) -> Done {
+    let (program, words) = command.split_first()?;
     Some(read_vectors(file).and_then(|all| {
         let traces = compare::Traces {
             vectors: &all,
             seed,
             count,
         };
-        let summary = compare::run(program, &traces)?;
+        let summary = compare::run(program, words, &traces)?;
         println!("{}", compare::written(&summary));
         Ok(())
     }))
