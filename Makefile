@@ -23,18 +23,16 @@ $(error PREFIX is '$(PREFIX)': choose a folder without a blank in its path)
 endif
 endif
 
-.PHONY: all compiler example install uninstall test bench fuzz clean
+.PHONY: all example install uninstall test bench fuzz clean
 .DELETE_ON_ERROR:
 
 all: $(library) $(program)
 
-# Before minutes of proof.
-compiler:
+# rt proves a crate and all that it stands on before it builds it, which takes minutes the first time. What the library
+# is to be linked with is looked for before.
+$(library): $(crates)
 	@.ci/needs rt
 	@.ci/needs compiler '$(CC)'
-
-# rt proves a crate and all that it stands on before it builds it, which takes minutes the first time.
-$(library): $(crates) | compiler
 	rt staticlib zobukwami
 
 # A program that is proved already is not written anew. After the library, as only one rt may work at a time.
@@ -42,21 +40,25 @@ target/bin/racecheck: $(crates) | $(library)
 	rt check racecheck
 	touch -c $@
 
+define compile
+@.ci/needs compiler '$(CC)'
+mkdir -p $(@D)
+$(CC) -std=c11 -Iinclude $(CPPFLAGS) $(CFLAGS) $(LDFLAGS) -o $@ $(filter %.c %.a,$^)
+endef
+
 $(program) $(example): target/bin/%: examples/%.c include/zobukwami.h $(library)
-	mkdir -p $(@D)
-	$(CC) -std=c11 -Iinclude $(CPPFLAGS) $(CFLAGS) $(LDFLAGS) -o $@ $< $(library)
+	$(compile)
 
 $(example): examples/recorder.h
 
 # Makes the calls for fire and the fuzzer.
 target/tests/caller: tests/fire/caller.c include/zobukwami.h $(library)
-	mkdir -p $(@D)
-	$(CC) -std=c11 -Iinclude $(CPPFLAGS) $(CFLAGS) $(LDFLAGS) -o $@ $< $(library)
+	$(compile)
 
 # The same with what does wrong in the library's place, and little time for a call.
+target/tests/wrong_caller: override CPPFLAGS += -DSECONDS=2
 target/tests/wrong_caller: tests/fire/caller.c tests/fire/wrong.c include/zobukwami.h
-	mkdir -p $(@D)
-	$(CC) -std=c11 -Iinclude $(CPPFLAGS) $(CFLAGS) $(LDFLAGS) -DSECONDS=2 -o $@ $(filter %.c,$^)
+	$(compile)
 
 example: $(example)
 	@.ci/x86-64 $(example)
@@ -75,17 +77,20 @@ uninstall:
 	rm -f '$(to)/bin/zobukwami-check'
 	rm -rf '$(to)/$(documents)'
 
-test: all target/bin/racecheck
+# What these run calls make itself, where the flags of this one do not belong.
+apart := env -u MAKEFLAGS -u MFLAGS -u MAKELEVEL
+
+test:
 	.ci/needs
-	.ci/c
-	.ci/second
-	.ci/fire
+	$(apart) .ci/c
+	$(apart) .ci/second
+	$(apart) .ci/fire
 
-bench: all
-	bench/run
+bench:
+	$(apart) bench/run
 
-fuzz: all
-	tests/fuzz/run
+fuzz:
+	$(apart) tests/fuzz/run
 
 clean:
 	rm -rf target

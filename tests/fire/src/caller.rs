@@ -5,7 +5,6 @@ use crate::lending::{Lent, Place, MEMORIES, WIDTHS};
 use crate::library::{Answer, Library};
 use crate::numbers;
 use crate::shared::Shared;
-use std::ffi::OsStr;
 use std::io::{self, Read, Write};
 use std::os::unix::process::ExitStatusExt;
 use std::path::Path;
@@ -13,6 +12,9 @@ use std::process::{Child, Command, ExitStatus, Stdio};
 
 /// Where `make` puts it.
 const FOLDER: &str = concat!(env!("CARGO_MANIFEST_DIR"), "/../../target/tests");
+
+/// What runs it.
+const RUNNER: &str = concat!(env!("CARGO_MANIFEST_DIR"), "/../../.ci/x86-64");
 
 /// Stands for the place of the first byte where NULL is lent.
 const NULL: u64 = u64::MAX;
@@ -95,8 +97,7 @@ impl Drop for Caller {
     }
 }
 
-/// How the program is started: behind the words of the variable EMULATOR, if
-/// there are any.
+/// How the program is started, whatever processor this machine has.
 fn command(name: &str, memories: &[Shared; MEMORIES]) -> Result<Command, String> {
     let path = Path::new(FOLDER).join(name);
     if !path.is_file() {
@@ -105,14 +106,10 @@ fn command(name: &str, memories: &[Shared; MEMORIES]) -> Result<Command, String>
             "there is no {path}: `make target/tests/{name}` builds it"
         ));
     }
-    let emulator = std::env::var_os("EMULATOR").unwrap_or_default();
-    let emulator = emulator.to_string_lossy();
-    let words = emulator.split_whitespace().map(OsStr::new);
-    let mut words = words.chain([path.as_os_str()]);
-    let mut command = Command::new(words.next().expect("the path at least"));
     let descriptors = memories.iter().map(Shared::descriptor);
+    let mut command = Command::new(RUNNER);
     command
-        .args(words)
+        .arg(path)
         .args(descriptors.map(|number| number.to_string()));
     Ok(command)
 }

@@ -1,11 +1,13 @@
 //! A trace taken apart, as docs/CODES.md advises where one is too large: by
-//! locations, and at syncs that main makes while no other procedure is open. The
-//! parts have the races of the whole, no more and no less.
+//! locations, without what these do not need, and at syncs that main makes while
+//! no other procedure is open. The parts have the races of the whole, no more and
+//! no less.
 
 use crate::call::{call, Outcome, RaceEntry};
 use crate::codes::{ACCEPTED, MAIN_NOT_RETURNED};
-use crate::kinds::{RETURN, SPAWN, SYNC, TABLE};
+use crate::kinds::{LOCK, RETURN, SPAWN, SYNC, TABLE, UNLOCK};
 use crate::reading::{read_event, Event};
+use std::collections::BTreeMap;
 
 /// Some events of a trace, which are a trace themselves.
 #[derive(Default)]
@@ -70,18 +72,49 @@ fn events(accepted: &[u8]) -> Vec<(Event, &[u8])> {
 }
 
 /// The accesses to even locations and those to odd ones; what is no access is in
-/// both parts.
+/// both parts, and then in each only where it is needed.
 fn by_locations(events: &[(Event, &[u8])]) -> Vec<Part> {
     let with = |remainder| {
+        let chosen = |event: &Event| !TABLE[event.kind].access || event.operand % 2 == remainder;
+        let chosen: Vec<bool> = events.iter().map(|(event, _)| chosen(event)).collect();
+        let needed = needed(events, &chosen);
         let mut part = Part::default();
-        for (number, (event, bytes)) in events.iter().enumerate() {
-            if !TABLE[event.kind].access || event.operand % 2 == remainder {
+        for (number, (_, bytes)) in events.iter().enumerate() {
+            if needed[number] {
                 part.add(number, bytes);
             }
         }
         part
     };
     vec![with(0), with(1)]
+}
+
+/// What is chosen, without each spawn and all up to its return where no access
+/// that is chosen lies between, and likewise each lock and its unlock.
+fn needed(events: &[(Event, &[u8])], chosen: &[bool]) -> Vec<bool> {
+    let mut needed = chosen.to_vec();
+    let mut accesses = 0;
+    // Each with how many accesses came before it.
+    let mut spawns = Vec::new();
+    let mut locks = BTreeMap::new();
+    for (number, (event, _)) in events.iter().enumerate() {
+        match event.kind {
+            SPAWN => spawns.push((number, accesses)),
+            LOCK => drop(locks.insert(event.operand, (number, accesses))),
+            RETURN => match spawns.pop() {
+                Some((spawn, before)) if before == accesses => needed[spawn..=number].fill(false),
+                _ => {}
+            },
+            UNLOCK => match locks.remove(&event.operand) {
+                Some((lock, before)) if before == accesses => {
+                    (needed[lock], needed[number]) = (false, false);
+                }
+                _ => {}
+            },
+            _ => accesses += usize::from(chosen[number] && TABLE[event.kind].access),
+        }
+    }
+    needed
 }
 
 /// Up to each sync that main makes alone and with it, then to the end; a return
@@ -124,8 +157,24 @@ mod tests {
         let lengths = |parts: Vec<Part>| -> Vec<usize> {
             parts.iter().map(|part| part.bytes.len()).collect()
         };
-        assert_eq!(lengths(by_locations(&events)), [9, 7]);
+        // The second body writes no odd location.
+        assert_eq!(lengths(by_locations(&events)), [9, 5]);
         assert_eq!(lengths(at_syncs(&events)), [8, 4]);
+    }
+
+    #[test]
+    fn what_is_needed_stays() {
+        // A body that takes lock 0 and writes, one within another that do
+        // nothing, lock 1 around lock 2 and a write, lock 3 around nothing.
+        let trace = [
+            0x00, 0x03, 0x06, 0x04, 0x01, 0x00, 0x00, 0x02, 0x01, 0x01, 0x0B, 0x13, 0x06, 0x14,
+            0x0C, 0x1B, 0x1C, 0x01,
+        ];
+        let events = events(&trace);
+        let needed = needed(&events, &vec![true; events.len()]);
+        let left_out: Vec<usize> = (0..events.len()).filter(|event| !needed[*event]).collect();
+        assert_eq!(left_out, [5, 6, 7, 8, 9, 15, 16]);
+        assert_eq!(check(&trace, &call(&trace)), Ok(()));
     }
 
     #[test]
