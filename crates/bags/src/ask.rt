@@ -9,11 +9,11 @@ ghost use Rattle.bags.specs.Bags.{in_p_bag, in_some_bag};
 use super::smaller;
 
 // The number of a procedure, from 0 for main. It names a spawned body, and no place in the trace.
-#[derive(Drop)]
+#[derive(Clone, Copy)]
 pub struct ProcedureNumber(pub u32);
 
 // How many pairs the lent pieces hold, how many procedures have begun, and the last pair, which is at hand here too.
-#[derive(Drop)]
+#[derive(Clone, Copy)]
 pub struct Pairs {
     pub count: usize,
     pub begun: u32,
@@ -22,7 +22,7 @@ pub struct Pairs {
 }
 
 // Where a procedure is.
-#[derive(Drop)]
+#[derive(Clone, Copy)]
 pub enum Answer {
     InSeries,
     InParallel,

@@ -3,6 +3,7 @@
 // The bags of 002 are runs of procedure numbers, so two lent pieces hold them as a pair of numbers for each open procedure.
 // `begin` sets them up; `spawn`, `sync` and `returns` bring them forward by one event; the others only read. `ask` has a module of
 // its own.
+#![tactic(auto)]
 ghost use Rattle.std.specs.Prelude.{◌≡◌, cond, List, ℕ, ◌≤◌, ◌<◌, ◌+◌, ◌-◌, min, length, set, get_or, ltb};
 ghost use Rattle.bags.specs.Parallel.{spawn, return, sync};
 ghost use Rattle.bags.specs.Runs.{piece_size, bags_in, Room};
@@ -16,7 +17,7 @@ use ask::{Pairs, ProcedureNumber};
 const MOST_BEGUN: u32 = 4096;
 
 // What a spawn gives: the pairs with one more, or the refusal where 4,096 procedures have begun.
-#[derive(Drop)]
+#[derive(Clone, Copy)]
 pub enum Spawned {
     Begun(Pairs),
     Full,

@@ -2,6 +2,7 @@
 // room zero.
 //
 // `check` is the call. It tests what was lent, and then goes through the trace with `step`, which brings one event in.
+#![tactic(auto)]
 ghost use Rattle.std.specs.Prelude.{◌≡◌, true, false, cond, List, ℕ, ◌+◌, ◌≤◌, ◌<◌, max, length};
 ghost use Rattle.trace.specs.Kinds.{is_access, location};
 ghost use Rattle.bags.specs.Runs.{Room as BagsRoom};
@@ -32,7 +33,7 @@ pub const NUMBERS: usize = 3;
 // What the call returns: the code, the events accepted, the first byte not accepted (or the length), the accesses reported, the
 // visits in all, and the most locks held at one moment.
 #[repr(C)]
-#[derive(Drop)]
+#[derive(Clone, Copy)]
 pub struct Answer {
     pub code: u32,
     pub events: u32,
@@ -43,7 +44,7 @@ pub struct Answer {
 }
 
 // The running counts: events accepted, accesses reported, visits, and the most locks held at one moment.
-#[derive(Drop)]
+#[derive(Clone, Copy)]
 struct Counts {
     events: u32,
     races: u32,
@@ -53,7 +54,7 @@ struct Counts {
 
 // What is brought forward from event to event beside the lent pieces: the place of the next event, the locks held, where the bags and
 // the lists stand in their pieces, and the counts.
-#[derive(Drop)]
+#[derive(Clone, Copy)]
 struct State {
     at: usize,
     held: Held,
@@ -63,7 +64,7 @@ struct State {
 }
 
 // What an event gives: the state after it, or the code that it is refused with.
-#[derive(Drop)]
+#[derive(Clone, Copy)]
 enum Stepped {
     Next(State),
     Stop(u32),

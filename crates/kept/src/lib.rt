@@ -2,6 +2,7 @@
 // kinds of events; of the bags it knows only what they answer about a procedure.
 //
 // `empty_lists` sets up the lists, `access` brings one access in, and `clear` leaves the pieces zero.
+#![tactic(auto)]
 ghost use Rattle.std.specs.Prelude.{◌≡◌, false, cond, ℕ, ◌≤◌, ◌<◌, ◌+◌, ◌-◌, [], ◌∷◌, length, set};
 ghost use Rattle.bags.specs.Runs.{bags_in, Room as BagsRoom};
 ghost use Rattle.bags.specs.Ask.{says_parallel};
@@ -20,7 +21,7 @@ use trace::EventNumber;
 const PIECE: usize = 4096;
 
 // An access that may be kept: the event's number, the procedure that makes it, and its lock set.
-#[derive(Drop)]
+#[derive(Clone, Copy)]
 pub struct Entry {
     pub event: EventNumber,
     pub procedure: ProcedureNumber,
@@ -28,21 +29,21 @@ pub struct Entry {
 }
 
 // Which slots hold no entry: `freed` links those whose entry was dropped, and from `used` on they never held one.
-#[derive(Drop)]
+#[derive(Clone, Copy)]
 pub struct Slots {
     pub freed: u32,
     pub used: usize,
 }
 
 // The kept entry that is named: the one that an access races with.
-#[derive(Drop)]
+#[derive(Clone, Copy)]
 pub enum Named {
     Nobody,
     With(Entry),
 }
 
 // What an access gives: which slots hold no entry now, the visits and who is named; or a refusal.
-#[derive(Drop)]
+#[derive(Clone, Copy)]
 pub enum Accessed {
     Done(Slots, u32, Named),
     InNoBag,
@@ -52,7 +53,7 @@ pub enum Accessed {
 // What the visits to a list have found so far: how many there were, the first entry that races, whether some entry leaves the access
 // out, how many are to be dropped, and the last entry that stays; and the first to be dropped, with the last that stays before it. An
 // entry is named by the link to its slot, 0 for none.
-#[derive(Drop)]
+#[derive(Clone, Copy)]
 struct Seen {
     visits: u32,
     race: usize,
@@ -64,7 +65,7 @@ struct Seen {
 }
 
 // What the visits to a whole list found, or that the procedure of some entry is in no bag.
-#[derive(Drop)]
+#[derive(Clone, Copy)]
 enum Looked {
     All(Seen),
     Stray,
@@ -72,7 +73,7 @@ enum Looked {
 
 // What becomes of an entry that is visited: it stays; it is dropped; or it is parallel with the access, and so stays, and may race with
 // it, and may leave it out.
-#[derive(Drop)]
+#[derive(Clone, Copy)]
 enum Weighed {
     Stays,
     Goes,

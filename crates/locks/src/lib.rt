@@ -1,5 +1,7 @@
 // Sets of locks for the race checker. A set is one 64-bit word; what each function means is said by who is in the
 // set (specs/Sets.antt). Nothing here knows of bytes, procedures or locations.
+#![tactic(auto)]
+
 ghost use Rattle.std.specs.Prelude.{◌≡◌};
 ghost use Rattle.locks.specs.Sets.{is_in, none, taken, released, set_of_access, is_empty, count, lowest, apart, within};
 
@@ -10,7 +12,7 @@ pub const LOCKS: u32 = 63;
 pub const READ_MARK: u32 = 63;
 
 // The set of locks held at one moment.
-#[derive(Drop)]
+#[derive(Clone, Copy)]
 pub struct Held {
     pub bits: u64,
 }

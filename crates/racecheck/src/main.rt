@@ -1,4 +1,5 @@
 // The program: reads a trace from standard input, has it checked, and prints the numbers returned and a line for each race.
+#![tactic(auto)]
 ghost use Rattle.std.specs.Prelude.{◌≤◌, length};
 ghost use Rattle.io.specs.Counts.{IsPrefixLen};
 

@@ -1,5 +1,6 @@
 // The reader of the race checker: the bytes of a trace, and the event that stands at a place of it. Nothing here knows of
 // procedures, locks held or what is kept.
+#![tactic(auto)]
 ghost use Rattle.std.specs.Prelude.{◌≡◌, ◌<◌};
 ghost use Rattle.trace.specs.Numbers.{number_at};
 ghost use Rattle.trace.specs.Kinds.{entry, says_yes, largest_operand, lawful_holding, is_access, is_read, location};
@@ -34,17 +35,17 @@ pub const KINDS: [[u32; 4]; 8] = [
 ];
 
 // The number of an event, from 0. It names a place in the trace, and no procedure.
-#[derive(Drop)]
+#[derive(Clone, Copy)]
 pub struct EventNumber(pub u32);
 
-#[derive(Drop)]
+#[derive(Clone, Copy)]
 pub struct Event {
     pub kind: u32,
     pub operand: u32,
 }
 
 // Why no event stands at a place.
-#[derive(Drop)]
+#[derive(Clone, Copy)]
 pub enum Refusal {
     BytesEnd,
     FormLong,
@@ -53,14 +54,14 @@ pub enum Refusal {
 }
 
 // A number and the place after it, or why there is none.
-#[derive(Drop)]
+#[derive(Clone, Copy)]
 pub enum Number {
     Value(u32, usize),
     Broken(Refusal),
 }
 
 // An event and the place after it, or why there is none and the place itself.
-#[derive(Drop)]
+#[derive(Clone, Copy)]
 pub enum Reading {
     Found(Event, usize),
     Refused(Refusal, usize),

@@ -1,4 +1,5 @@
 // The writer to put under a recorder: events into a lent buffer, each in the one form that the reader accepts.
+#![tactic(auto)]
 ghost use Rattle.std.specs.Prelude.{◌≡◌, ◌∷◌, [], ◌+◌, ◌*◌, ◌^◌, ◌≤◌, ◌<◌, length, take};
 ghost use Rattle.trace.specs.Numbers.{most_groups};
 ghost use Rattle.trace.specs.Kinds.{as_number, reserved, largest_operand};
@@ -14,7 +15,7 @@ const NO_OPERAND: u32 = 4294967295;
 
 // The code and the next place, on a refusal the given one.
 #[repr(C)]
-#[derive(Drop)]
+#[derive(Clone, Copy)]
 pub struct Written {
     pub code: u32,
     pub next: usize,
@@ -22,7 +23,7 @@ pub struct Written {
 
 // Why an event or a list is refused: for a kind, for an operand, or because the bytes don't fit or the place lies past
 // the end.
-#[derive(Drop)]
+#[derive(Clone, Copy)]
 enum Why {
     Kind,
     Operand,
@@ -157,7 +158,7 @@ fn event_at(events: &[u32], i: usize) -> Event
 }
 
 // What a list gets from a place on in so much room, and how many of its events pass before the first that is refused.
-#[derive(Drop)]
+#[derive(Clone, Copy)]
 struct Judged {
     written: Written,
     passed: usize,

@@ -2,11 +2,7 @@
 -- Assumes nothing.
 use borrow.Author.Rules.{rules}
 use Rattle.locks.proofs.Words.{ones_is_count}
-use Rattle.locks.proofs.Held.count.Statement.{statement}
-use Rattle.locks.proofs.Held.count.Tie as tie
+use Rattle.locks.proofs.Held.count.Goals as goal
 
-returns : tie.Need-returns
+pub returns : goal.returns
 returns c = ones_is_count _ (search rules)
-
-pub count_spec : {M : Type 1} → statement M
-count_spec = tie.close (tie.spec returns)
