@@ -4,6 +4,7 @@
 // `begin` sets them up; `spawn`, `sync` and `returns` bring them forward by one event; the others only read. `ask` has a module of
 // its own.
 #![tactic(auto)]
+
 ghost use Rattle.std.specs.Prelude.{◌≡◌, cond, List, ℕ, ◌≤◌, ◌<◌, ◌+◌, ◌-◌, min, length, set, get_or, ltb};
 ghost use Rattle.bags.specs.Parallel.{spawn, return, sync};
 ghost use Rattle.bags.specs.Runs.{piece_size, bags_in, Room};

@@ -1,6 +1,7 @@
 // The reader of the race checker: the bytes of a trace, and the event that stands at a place of it. Nothing here knows of
 // procedures, locks held or what is kept.
 #![tactic(auto)]
+
 ghost use Rattle.std.specs.Prelude.{◌≡◌, ◌<◌};
 ghost use Rattle.trace.specs.Numbers.{number_at};
 ghost use Rattle.trace.specs.Kinds.{entry, says_yes, largest_operand, lawful_holding, is_access, is_read, location};

@@ -1,5 +1,6 @@
 // The writer to put under a recorder: events into a lent buffer, each in the one form that the reader accepts.
 #![tactic(auto)]
+
 ghost use Rattle.std.specs.Prelude.{◌≡◌, ◌∷◌, [], ◌+◌, ◌*◌, ◌^◌, ◌≤◌, ◌<◌, length, take};
 ghost use Rattle.trace.specs.Numbers.{most_groups};
 ghost use Rattle.trace.specs.Kinds.{as_number, reserved, largest_operand};
