@@ -1,7 +1,7 @@
 -- What the lent pieces hold after each function: a store changes one pair and no other, so the pairs go forward as the events say, and with them the
 -- bags; and where a procedure is that `ask` seeks. Assumes nothing.
 use Prim.Native.Nat.{ℕ, zero, suc, ◌+◌, ◌-◌, ◌≤◌, ◌<◌}
-use mathlib.Core.Path.{◌≡◌, refl, sym, ap, ap₂, ◌∙◌}
+use mathlib.Core.Path.{◌≡◌, refl, sym, ap, ap₂, ◌∙◌, subst}
 use mathlib.Core.Logic.{◌≢◌}
 use mathlib.Core.Bool.{Bool, true, false, cond, not, ◌&&◌, ◌||◌, and-true, or-true, or-false, not-or_self}
 use mathlib.Core.List.{List, [], ◌∷◌, head_d, map}
@@ -62,7 +62,8 @@ pairs_synced : (starts joins : List ℕ) (d n : ℕ) → 0 < d → d ≤ length 
 unfolding pairs_in pairs_after joined
 pairs_synced starts joins zero n some l = absurd (omega arith)
 pairs_synced starts joins (suc d) n some l =
-    rw (one_less d) (ap₂ (λ (p : Pair) (ps : List Pair). p ∷ ps)
+    let P : ℕ → Type 0 = λ k. pairs_in starts (set joins k n) (suc d) ≡ pairs_after sync n (pairs_in starts joins (suc d)) in
+    subst P (sym (one_less d)) (ap₂ (λ (p : Pair) (ps : List Pair). p ∷ ps)
     (ap (λ (b : ℕ). record { start = get_or starts d 0; join = b }) (get_or-set_same joins d n 0 l))
     (same_pairs starts starts joins (set joins d n) d (λ i h. refl) (below_store joins d n)))
 

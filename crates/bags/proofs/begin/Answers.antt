@@ -5,4 +5,9 @@ use Rattle.bags.proofs.Pieces.{begins}
 use Rattle.bags.proofs.begin.Goals as goal
 
 pub returns : goal.returns
-returns c = (refl, (refl, (refl, begins c.args.starts.now c.args.joins.now (search rules) (search rules))))
+returns c = record {
+  result = refl;
+  starts = refl;
+  joins = refl;
+  bags = begins c.args.starts.now c.args.joins.now (search rules) (search rules);
+}

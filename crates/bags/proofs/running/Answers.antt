@@ -4,4 +4,4 @@ use Rattle.bags.proofs.Pieces.{runner_held}
 use Rattle.bags.proofs.running.Goals as goal
 
 pub returns : goal.returns
-returns c = (refl, λ starts joins room. runner_held starts joins _ room)
+returns c = record { result = refl; runner = λ starts joins room. runner_held starts joins _ room }

@@ -1,8 +1,6 @@
 -- The search by halves: the place that is sought stays between `low` and `high`, whose distance falls. Assumes nothing.
-use Prim.Native.Nat.{◌-◌}
 use native.Mathlib.Omega.{arith}
 use borrow.Author.Rules.{rules}
-use Rattle.bags.specs.Search.{Bracketed}
 use Rattle.bags.proofs.Search.{upper_half, lower_half, one_left}
 use Rattle.bags.proofs.ask.halve.Goals as goal
 

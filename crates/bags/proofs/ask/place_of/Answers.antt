@@ -1,7 +1,7 @@
 -- The search: the place that is sought is `at` or lies below it, and `at` falls; what is left is searched by halves. Assumes nothing.
 use native.Mathlib.Omega.{arith}
 use borrow.Author.Rules.{rules}
-use Rattle.bags.proofs.Search.{From, some_below, from_first, one_down, met, left_below}
+use Rattle.bags.proofs.Search.{some_below, from_first, one_down, met, left_below}
 use Rattle.bags.proofs.ask.place_of.Goals as goal
 
 pub overflow_sub-top : goal.overflow_sub-top
@@ -35,4 +35,8 @@ pub overflow_add-at : goal.overflow_add-at
 overflow_add-at c = omega arith
 
 pub halve-requires : goal.halve-requires
-halve-requires c = (search rules, (search rules, left_below _ _ _ _ (search rules) (search rules)))
+halve-requires c = record {
+  top_in_bounds = search rules;
+  top_lt_piece_size = search rules;
+  bracketed = left_below _ _ _ _ (search rules) (search rules);
+}

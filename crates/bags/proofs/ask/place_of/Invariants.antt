@@ -1,7 +1,5 @@
 -- The search: the place that is sought is `at` or lies below it, and `at` falls; what is left is searched by halves. Assumes nothing.
-use native.Mathlib.Omega.{arith}
-use borrow.Author.Rules.{rules}
-use Rattle.bags.proofs.Search.{From, some_below, from_first, one_down, met, left_below}
+use Rattle.bags.proofs.Search.{From}
 use Rattle.bags.proofs.ask.place_of.Given as goal
 
 abbrev pub invariant-loop-at : goal.invariant-loop-at

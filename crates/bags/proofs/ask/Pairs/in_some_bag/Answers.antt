@@ -4,4 +4,4 @@ use Rattle.bags.proofs.Pieces.{in_some}
 use Rattle.bags.proofs.ask.Pairs.in_some_bag.Goals as goal
 
 pub returns : goal.returns
-returns c = (refl, λ starts joins room. in_some starts joins _ _ room)
+returns c = record { result = refl; bags = λ starts joins room. in_some starts joins _ _ room }
