@@ -3,6 +3,7 @@
 //
 // `empty_lists` sets up the lists, `access` brings one access in, and `clear` leaves the pieces zero.
 #![tactic(auto)]
+
 ghost use Rattle.std.specs.Prelude.{◌≡◌, false, cond, ℕ, ◌≤◌, ◌<◌, ◌+◌, ◌-◌, [], ◌∷◌, length, set};
 ghost use Rattle.bags.specs.Runs.{bags_in, Room as BagsRoom};
 ghost use Rattle.bags.specs.Ask.{says_parallel};

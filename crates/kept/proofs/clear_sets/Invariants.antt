@@ -1,0 +1,12 @@
+-- One zero more is stored each turn. Assumes nothing.
+use Prim.Native.Nat.{◌-◌}
+use borrow.Author.Rules.{rules}
+use Rattle.kept.specs.Pieces.{piece_size}
+use Rattle.kept.proofs.Clearing.{Clearing, clearing_begins, clearing_goes_on, clearing_ends}
+use Rattle.kept.proofs.clear_sets.Given as goal
+
+abbrev pub invariant-loop-slot : goal.invariant-loop-slot
+invariant-loop-slot l = Clearing l.initial.piece l.piece l.slot
+
+abbrev pub decreases-loop-slot : goal.decreases-loop-slot
+decreases-loop-slot l = piece_size - l.slot
