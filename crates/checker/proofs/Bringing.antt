@@ -301,7 +301,7 @@ module _ (trace report : List ℕ) (p : Pieces) (s : State) (starts joins : List
       rw (sym made, sym same) refl
 
   -- What the lists made of it.
-  module _ (x : ℕ) (there : x ≡ location e) (ours : Entry) (told : entry_of t k ≡ ours) (is_access : is_access e ≡ true)
+  module _ (x : ℕ) (there : x ≡ location e) (ours : Entry) (told : entry_of t k ≡ ours) (accesses : is_access e ≡ true)
       (small : x < piece_size) (r : Accessed) (p' : Pieces)
       (is : r ≡ accessed (bags_in starts joins s.pairs) x ours (lists_in p)
       (slots_after (bags_in starts joins s.pairs) x ours p s.slots))
@@ -309,7 +309,7 @@ module _ (trace report : List ℕ) (p : Pieces) (s : State) (starts joins : List
     access_is : AccessIs (run t) k (bags_in starts joins s.pairs) x ours
     unfolding run
     access_is = record {
-      an_access = ap is_access is_e ∙ is_access;
+      an_access = ap is_access is_e ∙ accesses;
       its_location = ap location is_e ∙ sym there;
       its_entry = told;
       told_by_bags = ap parallel_by (sym n.stands.bags_held.bags_held);
@@ -323,7 +323,7 @@ module _ (trace report : List ℕ) (p : Pieces) (s : State) (starts joins : List
 
     -- The rules of codes 8 to 10 do not speak of it.
     access_passes : Passes
-    access_passes later = rw (access_locks_not e is_access, access_unlocks_not e is_access, is_access) refl
+    access_passes later = rw (access_locks_not e accesses, access_unlocks_not e accesses, accesses) refl
 
     -- It is refused with code 12 or 13,
     pub stray_refused : r ≡ InNoBag → IsRefused trace k report p starts joins report p' starts joins 12
@@ -331,7 +331,7 @@ module _ (trace report : List ℕ) (p : Pieces) (s : State) (starts joins : List
     stray_refused case =
         let why = subst (HoldsAfter (run t) k (bags_in starts joins s.pairs) p' s.slots) case lists_then.0 in
         record {
-          refused = by_last_rules access_passes ∙ rw (access_spawns_not e is_access, is_access, sym n.stands.bags_held.bags_held, why.0) refl;
+          refused = by_last_rules access_passes ∙ rw (access_spawns_not e accesses, accesses, sym n.stands.bags_held.bags_held, why.0) refl;
           report_same = refl;
           rests_kept = rests_then;
         }
@@ -343,7 +343,7 @@ module _ (trace report : List ℕ) (p : Pieces) (s : State) (starts joins : List
         record {
           refused =
               by_last_rules access_passes
-              ∙ rw (access_spawns_not e is_access, is_access, sym n.stands.bags_held.bags_held, why.0, lt-ltb _ _ why.1) refl;
+              ∙ rw (access_spawns_not e accesses, accesses, sym n.stands.bags_held.bags_held, why.0, lt-ltb _ _ why.1) refl;
           report_same = refl;
           rests_kept = rests_then;
         }
@@ -369,23 +369,23 @@ module _ (trace report : List ℕ) (p : Pieces) (s : State) (starts joins : List
         let so = subst (HoldsAfter (run t) k (bags_in starts joins s.pairs) p' s.slots) case lists_then.0 in
         let accepted : verdict trace k ≡ goes_on =
         by_last_rules access_passes
-        ∙ rw (access_spawns_not e is_access, is_access, sym n.stands.bags_held.bags_held, so.all_in_bags, le-ltb _ _ so.not_too_many) refl in
+        ∙ rw (access_spawns_not e accesses, accesses, sym n.stands.bags_held.bags_held, so.all_in_bags, le-ltb _ _ so.not_too_many) refl in
         let anew = race_anew then seen race so in
         let in_all : found (run t) (suc k) ≡ found (run t) k ++ race_named x ours race = ap (found (run t) k ++◌) anew in
-        let same_set : held t (suc k) ≡ s.held.bits = held_next s.held.bits (access_holds_the_same e s.held.bits is_access) in
+        let same_set : held t (suc k) ≡ s.held.bits = held_next s.held.bits (access_holds_the_same e s.held.bits accesses) in
         record {
           accepted = accepted;
           stands = record {
             accepted_before = accepted_too trace k n.stands.accepted_before accepted;
             at_place = sym next_place;
             held_told = sym same_set;
-            bags_held = bags.holds_other (acts t) k starts joins s.pairs (ap act_of is_e ∙ access_acts_not e is_access) n.stands.bags_held;
+            bags_held = bags.holds_other (acts t) k starts joins s.pairs (ap act_of is_e ∙ access_acts_not e accesses) n.stands.bags_held;
             lists_held = so.lists_held;
             events_told = omega arith;
             races_told =
                 more ∙ ap (◌+ length (race_named x ours race)) n.stands.races_told
                 ∙ sym (length-append (found (run t) k) (race_named x ours race)) ∙ ap length (sym in_all);
-            visits_told = rw (is_e, is_access) (ap₂ ◌+◌ n.stands.visits_told so.visits_told);
+            visits_told = rw (is_e, accesses) (ap₂ ◌+◌ n.stands.visits_told so.visits_told);
             most_told = rw (n.stands.most_told, same_set) (omega (arith, counted));
           };
           reported = λ report₀ laid-before.

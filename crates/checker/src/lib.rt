@@ -3,6 +3,7 @@
 //
 // `check` is the call. It tests what was lent, and then goes through the trace with `step`, which brings one event in.
 #![tactic(auto)]
+
 ghost use Rattle.std.specs.Prelude.{◌≡◌, true, false, cond, List, ℕ, ◌+◌, ◌≤◌, ◌<◌, max, length};
 ghost use Rattle.trace.specs.Kinds.{is_access, location};
 ghost use Rattle.bags.specs.Runs.{Room as BagsRoom};

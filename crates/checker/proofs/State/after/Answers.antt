@@ -1,0 +1,6 @@
+-- `State::after` puts the parts together. Assumes nothing.
+use borrow.Author.Rules.{rules}
+use Rattle.checker.proofs.State.after.Goals as goal
+
+pub returns : goal.returns
+returns c = cc
