@@ -21,12 +21,10 @@ size_of-size-requires c = rw c.number_of.ensures (number_small _ (search rules) 
 
 pub returns-then-size-room : goal.returns-then-size-room
 returns-then-size-room c =
-    let given = c.before.before.before.before.before.before.before.before.before in
-    let size = size_known given.args.event _ _ c.number_of.ensures ¿c.before.type_size.ensures¿ in
+    let size = size_known c.args.event _ _ c.number_of.ensures c.size_of-size.ensures in
     judged_inside _ _ _ _ _ (search rules) (search rules) refl (ap (◌+◌ _) size) (search rules)
 
 pub returns : goal.returns
 returns c =
-    let given = c.before.before.before.before.before.before.before.before.before.before in
-    let size = size_known given.args.event _ _ c.number_of.ensures ¿c.before.before.type_size.ensures¿ in
+    let size = size_known c.args.event _ _ c.number_of.ensures c.size_of-size.ensures in
     judged_outside _ _ _ _ _ (search rules) (search rules) c.refused-2.ensures (omega arith)

@@ -1,19 +1,17 @@
 -- `writer::put` meets its contract. The loop's invariant: the groups left, stored from the next place on, make the whole (`Putting`). It goes round
 -- once a group but the last. Assumes nothing.
 use borrow.Author.Rules.{rules}
-use Rattle.writer.proofs.Groups.{Putting, putting_begins, putting_inside, putting_goes_on, putting_ends}
+use Rattle.writer.proofs.Groups.{putting_begins, putting_inside, putting_goes_on, putting_ends}
 use Rattle.writer.proofs.Codes.{fits}
 use Rattle.writer.proofs.put.Goals as goal
 
 pub number_of-rest-requires : goal.number_of-rest-requires
 number_of-rest-requires c =
     let f = fits _ _ c.args.event c.requires in
-    (f.kind, f.operand)
+    record { kind_lt_reserved = f.kind; operand_bound = f.operand }
 
 pub loop-rest-init : goal.loop-rest-init
-loop-rest-init c =
-    let given = c.before.before in
-    putting_begins _ _ given.args.event _ c.number_of-rest.ensures (fits _ _ given.args.event given.requires)
+loop-rest-init c = putting_begins _ _ c.args.event _ c.number_of-rest.ensures (fits _ _ c.args.event c.requires)
 
 pub bounds-buffer-next : goal.bounds-buffer-next
 bounds-buffer-next c = putting_inside c.loop-rest.invariant
@@ -31,6 +29,4 @@ pub shape_of-buffer : goal.shape_of-buffer
 shape_of-buffer c = let long = c.loop-rest.invariant.long in search rules
 
 pub returns : goal.returns
-returns c =
-    let given = c.before.before.before.before in
-    putting_ends c.loop-rest.invariant given.args.event c.number_of-rest.ensures (search rules)
+returns c = putting_ends c.loop-rest.invariant c.args.event c.number_of-rest.ensures (search rules)

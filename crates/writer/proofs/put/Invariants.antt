@@ -1,8 +1,6 @@
 -- `writer::put` meets its contract. The loop's invariant: the groups left, stored from the next place on, make the whole (`Putting`). It goes round
 -- once a group but the last. Assumes nothing.
-use borrow.Author.Rules.{rules}
-use Rattle.writer.proofs.Groups.{Putting, putting_begins, putting_inside, putting_goes_on, putting_ends}
-use Rattle.writer.proofs.Codes.{fits}
+use Rattle.writer.proofs.Groups.{Putting}
 use Rattle.writer.proofs.put.Given as goal
 
 abbrev pub invariant-loop-rest : goal.invariant-loop-rest

@@ -1,8 +1,7 @@
 -- `writer::put_first` meets its contract. The loop's invariant: the events left, stored from the next place on, make the whole (`Writing`). It goes
 -- round once an event. Assumes nothing.
-use Prim.Native.Nat.{◌-◌}
 use borrow.Author.Rules.{rules}
-use Rattle.writer.proofs.Lists.{Writing, writing_begins, writing_passes, writing_goes_on, writing_ends}
+use Rattle.writer.proofs.Lists.{writing_begins, writing_passes, writing_goes_on, writing_ends}
 use Rattle.writer.proofs.put_first.Goals as goal
 
 pub loop-i-init : goal.loop-i-init

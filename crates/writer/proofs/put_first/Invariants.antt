@@ -1,8 +1,7 @@
 -- `writer::put_first` meets its contract. The loop's invariant: the events left, stored from the next place on, make the whole (`Writing`). It goes
 -- round once an event. Assumes nothing.
 use Prim.Native.Nat.{◌-◌}
-use borrow.Author.Rules.{rules}
-use Rattle.writer.proofs.Lists.{Writing, writing_begins, writing_passes, writing_goes_on, writing_ends}
+use Rattle.writer.proofs.Lists.{Writing}
 use Rattle.writer.proofs.put_first.Given as goal
 
 abbrev pub invariant-loop-i : goal.invariant-loop-i

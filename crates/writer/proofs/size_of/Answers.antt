@@ -2,7 +2,7 @@
 -- round once a group but the last. Assumes nothing.
 use borrow.Author.Rules.{rules}
 use native.Mathlib.Omega.{arith}
-use Rattle.writer.proofs.Groups.{Remains, all_remain, one_written, last_remains, next_near}
+use Rattle.writer.proofs.Groups.{all_remain, one_written, last_remains, next_near}
 use Rattle.writer.proofs.size_of.Goals as goal
 
 pub loop-left-init : goal.loop-left-init
