@@ -1,7 +1,7 @@
 -- What the layout means: the lists that the pieces hold. Cleared heads are a layout of empty lists. An access gives the same answer by any lists that
 -- agree with those held. After it the entries in the slots are as they were, but for the slot of the entry added, and that slot stands in the layout
 -- once, at the end of its own list; so the other lists are as they were, and that one is what the rules make of it. Assumes nothing.
-use Prim.Native.Nat.{ℕ, zero, suc, ◌+◌, ◌≤◌, ◌<◌}
+use Prim.Native.Nat.{ℕ, zero, suc, ◌≤◌, ◌<◌}
 use mathlib.Core.Path.{◌≡◌, refl, sym, ap, ap₂, ◌∙◌, subst}
 use mathlib.Core.Logic.{◌≢◌}
 use mathlib.Core.Bool.{Bool, true, false, cond, not}

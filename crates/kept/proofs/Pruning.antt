@@ -1,11 +1,11 @@
 -- Unlinking the dropped: the slots passed that stay, and those still ahead, make up the list all the while; the dropped ones passed stand before those
 -- freed earlier. Assumes nothing.
-use Prim.Native.Nat.{ℕ, suc, ◌+◌, ◌-◌, ◌≤◌, ◌<◌}
+use Prim.Native.Nat.{ℕ, suc, ◌-◌, ◌≤◌, ◌<◌}
 use mathlib.Core.Path.{◌≡◌, refl, sym, ap, ◌∙◌}
 use mathlib.Core.Bool.{Bool, true, false, cond, not}
 use mathlib.Core.List.{List, [], ◌∷◌, ◌++◌, append_assoc}
 use native.Mathlib.Omega.{arith}
-use lib.ListN.{length, get_or, set, drop, length-set, length-append}
+use lib.ListN.{length, get_or, set, length-set, length-append}
 use Rattle.kept.specs.declared.Slots.{Slots}
 use Rattle.kept.specs.Lists.{those}
 use Rattle.kept.specs.Pieces.{piece_size, slots_from, slots_of, slots_freed, Chain, LaidOut, RestKept}

@@ -1,6 +1,6 @@
 -- The pieces through a run: they hold the lists kept before each event. An access that is not refused leaves what the rules make of the list of its
 -- location, which is the list kept after it; and the answer is told by the two tests and the list. Assumes nothing.
-use Prim.Native.Nat.{ℕ, zero, suc, ◌+◌, ◌≤◌, zero-le}
+use Prim.Native.Nat.{ℕ, zero, suc, ◌≤◌, zero-le}
 use mathlib.Core.Path.{◌≡◌, refl, sym, ap, ◌∙◌}
 use mathlib.Core.Bool.{Bool, true, false, cond, not}
 use mathlib.Core.List.{List, [], ◌∷◌, ◌++◌}

@@ -1,5 +1,5 @@
 -- What an access gives, and what it leaves in the pieces.
-use Rattle.std.specs.Prelude.{ℕ, suc, ◌+◌, ◌≡◌, Bool, true, false, cond, not, List, [], ◌∷◌, ◌++◌, eqb, ltb, length, set}
+use Rattle.std.specs.Prelude.{ℕ, suc, ◌≡◌, Bool, true, false, cond, not, List, [], ◌∷◌, ◌++◌, eqb, ltb, length, set}
 use Rattle.std.proofs.Math.Option.{Option, none, some}
 use Rattle.bags.specs.Bags.{Bags, in_p_bag, in_some_bag}
 use Rattle.kept.specs.declared.Entry.{Entry}

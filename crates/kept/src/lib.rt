@@ -387,6 +387,7 @@ fn change(
 }
 
 // What becomes of the entry of that procedure, with those locks. The bags are asked only where the answer matters.
+#[tactic(auto, unfolding(crate::specs::Parts::weighed_entry, crate::specs::Rules::races, crate::specs::Rules::dropped, crate::specs::Rules::omits))]
 fn weigh(
     procedure: ProcedureNumber,
     locks: u64,

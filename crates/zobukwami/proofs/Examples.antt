@@ -1,7 +1,7 @@
 -- The events of a trace of 01 as a list, by evaluation. Assumes nothing.
 use Prim.Native.Nat.{ℕ}
 use mathlib.Core.Path.{◌≡◌, refl}
-use mathlib.Core.List.{List, [], ◌∷◌}
+use mathlib.Core.List.{[], ◌∷◌}
 use Rattle.trace.specs.declared.Event.{Event}
 use Rattle.trace.specs.Numbers.{value, followed, number_of, number_at}
 use Rattle.trace.specs.Kinds.{entry}

@@ -1,5 +1,6 @@
 // The checker and the writer under the names by which C calls them, with the same contracts.
 #![tactic(auto)]
+
 ghost use Rattle.std.specs.Prelude.{◌∷◌, []};
 ghost use Rattle.checker.specs.Call.{room, lent, left};
 ghost use Rattle.checker.specs.Contract.{Contract};

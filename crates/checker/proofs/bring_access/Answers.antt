@@ -1,14 +1,9 @@
 -- `bring_access` brings in an access: each way out is a law of `Bringing`. Assumes nothing.
-use Prim.Native.Nat.{ℕ}
 use mathlib.Core.Path.{◌≡◌, ap, ◌∙◌}
 use mathlib.Core.Bool.{Bool}
-use mathlib.Core.List.{List}
-use native.Mathlib.Omega.{arith}
-use borrow.Author.Rules.{rules}
 use Rattle.locks.specs.Sets.{set_of_access}
-use Rattle.kept.specs.Pieces.{Pieces, pieces}
+use Rattle.kept.specs.Pieces.{pieces}
 use Rattle.checker.specs.Events.{events, entry_of}
-use Rattle.checker.specs.Steps.{ComesNext, Safe}
 use Rattle.checker.proofs.Bringing.{entry_told, stray_refused, full_refused, access_goes_on}
 use Rattle.checker.proofs.bring_access.Goals as goal
 

@@ -1,10 +1,6 @@
 -- `bring_other` brings in an event that is no access: each way out is a law of `Bringing`. Assumes nothing.
-use mathlib.Core.Path.{◌≡◌, sym, ◌∙◌}
-use mathlib.Core.Bool.{true, false}
+use mathlib.Core.Path.{sym, ◌∙◌}
 use borrow.Author.Rules.{rules}
-use borrow.Author.Tests.{not-true, not-false}
-use Rattle.trace.specs.Kinds.{is_access}
-use Rattle.locks.specs.Sets.{is_empty}
 use Rattle.checker.proofs.AccessKinds.{unlawful, none_held, some_held}
 use Rattle.checker.proofs.Bringing.{lock_goes_on, lock_refused, unlock_goes_on, unlock_refused, holding_refused}
 use Rattle.checker.proofs.Bringing.{spawn_goes_on, spawn_refused, return_goes_on, sync_goes_on}

@@ -1,13 +1,6 @@
 -- `check` refuses, or reads the trace and clears the room: each way out is a law of `ContractMet`. Assumes nothing.
-use Prim.Native.Nat.{◌≤◌}
-use mathlib.Core.Path.{◌≡◌}
-use mathlib.Core.Bool.{false}
-use borrow.Author.Rules.{rules}
-use lib.ListN.{length}
-use Rattle.kept.specs.Pieces.{Pieces, pieces, piece_size, Fits}
-use Rattle.checker.specs.Call.{WorkingRoom, room, any_short}
-use Rattle.checker.proofs.Rests.{fits_still}
-use Rattle.checker.proofs.ContractMet.{short_refused, long_refused, room_fits, read_and_cleared}
+use Rattle.kept.specs.Pieces.{pieces}
+use Rattle.checker.proofs.ContractMet.{short_refused, long_refused, read_and_cleared}
 use Rattle.checker.proofs.check.Goals as goal
 
 pub returns-then-short : goal.returns-then-short

@@ -1,14 +1,9 @@
 -- `examine` sets the pieces up and goes through the trace, one step after the other, until it stops. Assumes nothing.
-use Prim.Native.Nat.{◌-◌}
-use mathlib.Core.Path.{ap, subst, ◌∙◌}
+use mathlib.Core.Path.{ap, ◌∙◌}
 use mathlib.Core.Bool.{Bool, cond}
-use borrow.Author.Rules.{rules}
-use lib.ListN.{length}
-use Rattle.kept.specs.Pieces.{Pieces, pieces}
-use Rattle.checker.specs.Steps.{AllRestsKept, AfterStep}
+use Rattle.kept.specs.Pieces.{pieces}
 use Rattle.checker.proofs.Rests.{rests_kept_on}
-use Rattle.checker.proofs.Writing.{laid-length}
-use Rattle.checker.proofs.Loop.{Going, going_first, rests_at_first, going_on, nearer_the_end, Answered, stopped, at_the_end}
+use Rattle.checker.proofs.Loop.{going_first, rests_at_first, nearer_the_end, stopped, at_the_end}
 use Rattle.checker.proofs.examine.Goals as goal
 
 pub loop-state-init : goal.loop-state-init

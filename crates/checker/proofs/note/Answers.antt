@@ -1,6 +1,5 @@
 -- `note` writes an entry if somebody is named. Assumes nothing.
 use mathlib.Core.Path.{◌∙◌}
-use borrow.Author.Rules.{rules}
 use Rattle.checker.proofs.Writing.{nobody_noted, race_noted}
 use Rattle.checker.proofs.note.Goals as goal
 

@@ -1,13 +1,7 @@
 -- `step` reads an event and tests it; `bring_access` and `bring_other` bring it in. Assumes nothing.
-use Prim.Native.Nat.{ℕ}
-use mathlib.Core.Path.{◌≡◌, sym, ◌∙◌}
-use borrow.Author.Rules.{rules}
-use borrow.Author.Tests.{not-true, not-false}
-use Rattle.trace.specs.declared.Event.{Event}
-use Rattle.trace.specs.declared.Reading.TheVariants.{Found}
-use Rattle.trace.specs.Events.{reading_at}
-use Rattle.kept.specs.Pieces.{Pieces, pieces}
-use Rattle.checker.specs.Steps.{ComesNext, Safe}
+use mathlib.Core.Path.{sym, ◌∙◌}
+use Rattle.kept.specs.Pieces.{pieces}
+use Rattle.checker.specs.Steps.{ComesNext}
 use Rattle.checker.proofs.Stepping.{is_safe, is_located, reading_refused, refused_after_main}
 use Rattle.checker.proofs.step.Goals as goal
 

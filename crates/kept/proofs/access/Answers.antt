@@ -1,17 +1,10 @@
 -- `access` meets the one entry there is, or looks at several, and then refuses or changes: each way out is a law of `Accepting`. Assumes nothing.
-use Prim.Native.Nat.{◌≤◌, ◌<◌}
-use mathlib.Core.Path.{◌≡◌, refl, sym, ap, ◌∙◌}
-use mathlib.Core.Bool.{false}
-use mathlib.Core.List.{List}
+use mathlib.Core.Path.{refl, sym, ap, ◌∙◌}
 use native.Mathlib.Omega.{arith}
-use borrow.Author.Rules.{rules}
 use Rattle.bags.specs.Runs.{bags_in}
-use Rattle.bags.specs.Bags.{Bags}
-use Rattle.kept.specs.Lists.{any}
-use Rattle.kept.specs.Pieces.{Pieces, pieces, piece_size, slots_of, lists_in, Room}
-use Rattle.kept.specs.Access.{in_no_bag, code_of, accessed}
-use Rattle.kept.specs.Parts.{nothing_seen, seen_over}
-use Rattle.kept.proofs.Telling.{Told, seen_tells, looked_stray, looked_all, room_walkable}
+use Rattle.kept.specs.Pieces.{pieces}
+use Rattle.kept.specs.Access.{code_of, accessed}
+use Rattle.kept.proofs.Telling.{seen_tells, looked_stray, looked_all, room_walkable}
 use Rattle.kept.proofs.Meaning.{code_told}
 use Rattle.kept.proofs.Accepting.{answer_no_bag, answer_full, answer_done}
 use Rattle.kept.proofs.One.{head_fits, one_slot}

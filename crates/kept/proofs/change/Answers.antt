@@ -1,13 +1,8 @@
 -- `change` unlinks and appends: each way out is a law of `Accepting`. Assumes nothing.
-use Prim.Native.Nat.{◌<◌}
-use mathlib.Core.Path.{◌≡◌}
-use mathlib.Core.Bool.{false}
 use native.Mathlib.Omega.{arith}
-use borrow.Author.Rules.{rules}
 use Rattle.bags.specs.Runs.{bags_in}
-use Rattle.kept.specs.Pieces.{Pieces, pieces, piece_size, Room}
-use Rattle.kept.specs.Parts.{is_full}
-use Rattle.kept.proofs.Telling.{Told, seen_tells, dropped_counted, room_walkable}
+use Rattle.kept.specs.Pieces.{pieces}
+use Rattle.kept.proofs.Telling.{seen_tells, dropped_counted, room_walkable}
 use Rattle.kept.proofs.Accepting.{left_out, append_fits, entry_added}
 use Rattle.kept.proofs.change.Goals as goal
 

@@ -1,8 +1,6 @@
 -- One zero more is stored each turn. Assumes nothing.
-use Prim.Native.Nat.{◌-◌}
 use borrow.Author.Rules.{rules}
-use Rattle.kept.specs.Pieces.{piece_size}
-use Rattle.kept.proofs.Clearing.{Clearing, clearing_begins, clearing_goes_on, clearing_ends}
+use Rattle.kept.proofs.Clearing.{clearing_begins, clearing_goes_on, clearing_ends}
 use Rattle.kept.proofs.clear_sets.Goals as goal
 
 pub loop-slot-init : goal.loop-slot-init

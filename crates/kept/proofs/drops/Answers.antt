@@ -1,6 +1,5 @@
 -- An entry is dropped if that becomes of it. Assumes nothing.
 use mathlib.Core.Path.{◌∙◌}
-use borrow.Author.Rules.{rules}
 use Rattle.kept.proofs.Visits.{dropped_told}
 use Rattle.kept.proofs.drops.Goals as goal
 

@@ -1,10 +1,8 @@
 -- `look` visits the slots of the list one after the other. Assumes nothing.
-use Prim.Native.Nat.{◌≤◌, ◌<◌, ◌-◌}
-use native.Mathlib.Omega.{arith}
-use borrow.Author.Rules.{rules}
+use Prim.Native.Nat.{◌-◌}
 use Rattle.bags.specs.Runs.{bags_in}
 use Rattle.kept.specs.Pieces.{piece_size, slots_of}
-use Rattle.kept.proofs.Visits.{Walking, walk_begins, walk_inside, walk_strays, one_visit_more, walk_goes_on, walk_ends}
+use Rattle.kept.proofs.Visits.{Walking}
 use Rattle.kept.proofs.look.Given as goal
 
 abbrev pub invariant-loop-at : goal.invariant-loop-at

@@ -1,18 +1,10 @@
 -- `meet_one` weighs the entry, and refuses or changes: each way out is a law of `One` or of `Accepting`. Assumes nothing.
-use Prim.Native.Nat.{◌-◌, ◌<◌}
-use mathlib.Core.Path.{◌≡◌, refl, sym, ap, ◌∙◌}
-use mathlib.Core.Bool.{false}
-use mathlib.Core.List.{List, [], ◌∷◌}
+use Prim.Native.Nat.{◌-◌}
+use mathlib.Core.Path.{refl, sym, ap, ◌∙◌}
 use native.Mathlib.Omega.{arith}
-use lib.ListN.{get_or}
-use borrow.Author.Rules.{rules}
 use Rattle.bags.specs.Runs.{bags_in}
-use Rattle.bags.specs.Bags.{Bags, in_some_bag}
-use Rattle.kept.specs.Lists.{any}
-use Rattle.kept.specs.Pieces.{Pieces, pieces, piece_size, slots_of, lists_in, Room}
-use Rattle.kept.specs.Access.{in_no_bag, accessed}
-use Rattle.kept.specs.Parts.{drops_by, Pruned}
-use Rattle.kept.proofs.Telling.{Told}
+use Rattle.kept.specs.Pieces.{pieces}
+use Rattle.kept.specs.Access.{accessed}
 use Rattle.kept.proofs.Accepting.{answer_no_bag, answer_full, answer_done, omitted_not_full, left_out, append_fits, entry_added}
 use Rattle.kept.proofs.One.{one_fits, one_stray, one_bagged, one_told, nothing_pruned, one_nobody, one_not_full, renewed}
 use Rattle.kept.proofs.meet_one.Goals as goal

@@ -1,15 +1,9 @@
 -- `prune` walks the list until none is left to drop; each step is a law of `Pruning`. Assumes nothing.
-use Prim.Native.Nat.{ℕ, ◌-◌, ◌≤◌, ◌<◌}
-use mathlib.Core.Path.{sym, ◌∙◌}
-use mathlib.Core.Bool.{Bool}
-use mathlib.Core.List.{List}
-use native.Mathlib.Omega.{arith}
-use lib.ListN.{length, set}
-use borrow.Author.Rules.{rules}
+use lib.ListN.{length}
 use Rattle.bags.specs.Runs.{bags_in}
 use Rattle.kept.specs.Pieces.{piece_size, slots_from}
 use Rattle.kept.specs.Parts.{drops_by}
-use Rattle.kept.proofs.Pruning.{Pruning, Step, prune_begins, none_pruned, prune_inside, prune_drops, prune_stays, prune_ends, prune_falls}
+use Rattle.kept.proofs.Pruning.{Pruning}
 use Rattle.kept.proofs.prune.Given as goal
 
 abbrev pub invariant-loop-left : goal.invariant-loop-left

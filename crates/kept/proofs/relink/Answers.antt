@@ -1,6 +1,5 @@
 -- Where there is no last entry the head is stored, and else the last entry's link. Assumes nothing.
 use Rattle.kept.proofs.Linking.{linked_first, linked_after}
-use borrow.Author.Rules.{rules}
 use Rattle.kept.proofs.relink.Goals as goal
 
 pub returns-then-last-eq0 : goal.returns-then-last-eq0

@@ -1,6 +1,5 @@
 -- The two cases of `slot_for`. Assumes nothing.
 use borrow.Author.Tests.{eq-eqb, ne_eqb}
-use borrow.Author.Rules.{rules}
 use Rattle.kept.proofs.slot_for.Goals as goal
 
 pub returns-then-slots-eq0 : goal.returns-then-slots-eq0

@@ -1,6 +1,5 @@
 -- The two cases of `slots_then`. Assumes nothing.
 use borrow.Author.Tests.{eq-eqb, ne_eqb}
-use borrow.Author.Rules.{rules}
 use Rattle.kept.proofs.slots_then.Goals as goal
 
 pub returns-then-slots-eq0 : goal.returns-then-slots-eq0

@@ -1,12 +1,9 @@
 -- `trace::read_number` meets its contract. The loop's invariant: the groups before `next`, each followed by another, are gathered. It goes round once a
 -- group, at most `most_groups` times; each way out is one law of `Gathering`. Assumes nothing.
-use Prim.Native.Nat.{◌-◌}
 use borrow.Author.Rules.{rules}
-use borrow.Author.Tests.{ltb-true, ltb-false}
+use borrow.Author.Tests.{ltb-true}
 use native.Mathlib.Omega.{arith}
-use mathlib.Core.Logic.{⊎_elim}
-use Rattle.trace.specs.Numbers.{most_groups}
-use Rattle.trace.proofs.Gathering.{Gathered, begins, weight_small, sum_stays_small, ends, too_many, goes_on, zero_last, is_whole}
+use Rattle.trace.proofs.Gathering.{begins, weight_small, sum_stays_small, ends, too_many, goes_on, zero_last, is_whole}
 use Rattle.trace.proofs.read_number.Goals as goal
 
 pub loop-followed-init : goal.loop-followed-init

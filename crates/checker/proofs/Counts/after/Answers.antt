@@ -1,5 +1,4 @@
 -- `Counts::after` counts one event more. Assumes nothing.
-use borrow.Author.Rules.{rules}
 use Rattle.checker.proofs.Counts.after.Goals as goal
 
 pub returns : goal.returns

@@ -1,5 +1,4 @@
 -- `State::after` puts the parts together. Assumes nothing.
-use borrow.Author.Rules.{rules}
 use Rattle.checker.proofs.State.after.Goals as goal
 
 pub returns : goal.returns

@@ -1,6 +1,5 @@
 -- Each way that an entry may go. Assumes nothing.
 use mathlib.Core.Path.{refl}
-use borrow.Author.Rules.{rules}
 use Rattle.kept.proofs.Visits.{stays_in, goes_in}
 use Rattle.kept.proofs.Seen.and.Goals as goal
 

@@ -1,11 +1,10 @@
 -- `trace::Event::entry` meets its contract: each row of the constant array is 01's row of that kind, and past the last row stand zeros.
 -- Assumes nothing.
-use Prim.Native.Nat.{ℕ, zero, suc, ◌≤◌, zero-le}
+use Prim.Native.Nat.{ℕ, ◌≤◌}
 use mathlib.Core.Path.{◌≡◌}
 use mathlib.Core.List.{[]}
 use native.Mathlib.Omega.{arith}
 use lib.ListN.{get_or, get_or-eq_default}
-use borrow.Author.Rules.{rules}
 use Rattle.trace.specs.declared.Event.{Event}
 use Rattle.trace.specs.Kinds.{kinds, entry}
 use Rattle.trace.proofs.Event.entry.Goals as goal
