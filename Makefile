@@ -1,5 +1,5 @@
 # Builds the library and the program over it, installs them, and runs the worked example and what tests and measures
-# them. Everything made is under target/.
+# them. Everything made is under target/; what rt makes and keeps is under crates/*/out/.
 PREFIX ?= /usr/local
 CFLAGS ?= -O2 -Wall -Wextra
 INSTALL ?= install
@@ -13,7 +13,7 @@ library := target/staticlib/libzobukwami.a
 program := target/bin/check_file
 example := target/bin/short_rows
 documents := share/doc/zobukwami
-crates := crates.txt $(shell find crates -name '*.rt' -o -name '*.antt')
+crates := crates.txt $(shell find crates -name out -prune -o '(' -name '*.rt' -o -name '*.antt' ')' -print)
 prefix = $(abspath $(PREFIX))
 to = $(DESTDIR)$(prefix)
 # pkg-config gives the prefix as words of a command line, where a blank would part it in two.
@@ -29,16 +29,19 @@ endif
 all: $(library) $(program)
 
 # rt proves a crate and all that it stands on before it builds it, which takes minutes the first time. What the library
-# is to be linked with is looked for before.
+# is to be linked with is looked for before. It is for plain x86-64: nothing in it looks for what a processor lacks.
 $(library): $(crates)
 	@.ci/needs rt
 	@.ci/needs compiler '$(CC)'
-	rt staticlib zobukwami
+	cd crates/zobukwami && rt lib --cpu x86-64
+	mkdir -p $(@D)
+	cp crates/zobukwami/out/libzobukwami.a $@
 
-# A program that is proved already is not written anew. After the library, as only one rt may work at a time.
+# rt builds a program to run it, here on no input. After the library, as only one rt may work at a time.
 target/bin/racecheck: $(crates) | $(library)
-	rt check racecheck
-	touch -c $@
+	cd crates/racecheck && rt run </dev/null >/dev/null
+	mkdir -p $(@D)
+	cp crates/racecheck/out/racecheck $@
 
 define compile
 @.ci/needs compiler '$(CC)'
@@ -93,4 +96,4 @@ fuzz:
 	$(apart) tests/fuzz/run
 
 clean:
-	rm -rf target
+	rm -rf target crates/*/out
