@@ -3,7 +3,7 @@
 
 usage: tools/port_names.py [TOP]
 
-To be run once, after /opt/rattle/port/port.py, at the top of a checkout (or on the folder TOP). It rewrites the .rt, .antt and .edit
+To be run once, after the kit's port/port.py, at the top of a checkout (or on the folder TOP). It rewrites the .rt, .antt and .edit
 files of crates/, and what stands between backticks in README.md and docs/*.md. In a comment only names without a dash are turned, and
 names between backticks. Functions of src/, exported names, strings, inputs and outputs are not in the table.
 """
