@@ -1,5 +1,5 @@
--- The three numbers by which the counts are brought forward, as the machine passes them, and that what they own is had for nothing: for the walks of
--- `bring` and `brought`. Assumes nothing.
+-- The three numbers by which the counts are brought forward, as the machine passes them, and that what they own is had for nothing: for a walk by hand of
+-- a function that takes them. Assumes nothing.
 use Prim.Native.Nat.{ℕ}
 use mathlib.Core.List.{[], ◌∷◌, List}
 use seplogic.Ra.Ura.{Ura}

@@ -1,4 +1,5 @@
 -- `step` reads an event and tests it; `bring_access` and `bring_other` bring it in. Assumes nothing.
+use borrow.Author.Rules.{rules}
 use mathlib.Core.Path.{sym, ◌∙◌}
 use Rattle.kept.specs.Pieces.{pieces}
 use Rattle.checker.specs.Steps.{ComesNext}
@@ -8,7 +9,7 @@ use Rattle.checker.proofs.step.Goals as goal
 pub returns-then-not-running : goal.returns-then-not-running
 returns-then-not-running c =
     refused_after_main _ _ _ _ _ _ _ c.requires.stands c.requires.at_in_bounds _ _ (sym c.read_event.ensures ∙ c.in-Found.is)
-    (sym c.main_is_open-running.ensures ∙ c.if-not-running.true)
+    (sym c.main_is_open-running.ensures ∙ (search rules))
 
 pub bring_access-requires : goal.bring_access-requires
 bring_access-requires c =
@@ -18,7 +19,7 @@ bring_access-requires c =
       stands = c.requires.stands;
       bytes_left = c.requires.at_in_bounds;
       read = sym c.read_event.ensures ∙ c.in-Found.is;
-      main_runs = sym c.main_is_open-running.ensures ∙ c.if-not-running.false;
+      main_runs = sym c.main_is_open-running.ensures ∙ (search rules);
     } in
     let access = sym c.is_access.ensures ∙ c.if-is_access.true in
     record {
@@ -35,7 +36,7 @@ returns-then-is_access c =
       stands = c.requires.stands;
       bytes_left = c.requires.at_in_bounds;
       read = sym c.read_event.ensures ∙ c.in-Found.is;
-      main_runs = sym c.main_is_open-running.ensures ∙ c.if-not-running.false;
+      main_runs = sym c.main_is_open-running.ensures ∙ (search rules);
     } in
     c.bring_access.ensures _ comes
 
@@ -47,7 +48,7 @@ bring_other-requires c =
       stands = c.requires.stands;
       bytes_left = c.requires.at_in_bounds;
       read = sym c.read_event.ensures ∙ c.in-Found.is;
-      main_runs = sym c.main_is_open-running.ensures ∙ c.if-not-running.false;
+      main_runs = sym c.main_is_open-running.ensures ∙ (search rules);
     } in
     let safe = is_safe _ _ _ _ _ _ _ comes c.requires.trace_len_bound in
     record {
@@ -69,6 +70,6 @@ returns-else-is_access c =
       stands = c.requires.stands;
       bytes_left = c.requires.at_in_bounds;
       read = sym c.read_event.ensures ∙ c.in-Found.is;
-      main_runs = sym c.main_is_open-running.ensures ∙ c.if-not-running.false;
+      main_runs = sym c.main_is_open-running.ensures ∙ (search rules);
     } in
     c.bring_other.ensures _ _ _ comes

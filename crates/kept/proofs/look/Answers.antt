@@ -1,6 +1,4 @@
 -- `look` visits the slots of the list one after the other. Assumes nothing.
-use mathlib.Core.Path.{ap}
-use mathlib.Core.Bool.{not}
 use native.Mathlib.Omega.{arith}
 use borrow.Author.Rules.{rules}
 use Rattle.kept.proofs.Visits.{walk_begins, walk_inside, walk_strays, one_visit_more, walk_goes_on, walk_ends}
@@ -17,7 +15,7 @@ bounds-procedures-slot c = omega (arith, walk_inside _ _ _ _ _ _ _ _ c.loop-at.i
 
 pub returns-then-not-in_some_bag : goal.returns-then-not-in_some_bag
 returns-then-not-in_some_bag c =
-    walk_strays _ _ _ _ _ _ _ _ c.loop-at.invariant c.loop-at-test.true (c.in_some_bag.ensures.bags _ _ (search rules)) (ap not c.if-not-in_some_bag.true)
+    walk_strays _ _ _ _ _ _ _ _ c.loop-at.invariant c.loop-at-test.true (c.in_some_bag.ensures.bags _ _ (search rules)) (search rules)
 
 pub offset_bounds-sets-slot : goal.offset_bounds-sets-slot
 offset_bounds-sets-slot c = omega (arith, walk_inside _ _ _ _ _ _ _ _ c.loop-at.invariant c.loop-at-test.true)
@@ -41,7 +39,7 @@ pub loop-at-preserved : goal.loop-at-preserved
 loop-at-preserved c =
     walk_goes_on _ _ _ _ _ _ _ _ _ c.weigh-weighed.result _ c.loop-at.invariant c.loop-at-test.true
     (c.in_some_bag.ensures.bags _ _ c.requires.bags_room)
-    (ap not c.if-not-in_some_bag.false) c.weigh-weighed.ensures c.and-seen.ensures c.wide-at-in-loop-at.ensures
+    (search rules) c.weigh-weighed.ensures c.and-seen.ensures c.wide-at-in-loop-at.ensures
 
 pub returns : goal.returns
 returns c = walk_ends _ _ _ _ _ _ _ _ c.loop-at.invariant c.loop-at-test.false

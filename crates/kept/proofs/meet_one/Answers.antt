@@ -1,8 +1,8 @@
 -- `meet_one` weighs the entry, and refuses or changes: each way out is a law of `One` or of `Accepting`. Assumes nothing.
 use Prim.Native.Nat.{◌-◌}
 use mathlib.Core.Path.{refl, sym, ap, ◌∙◌}
-use mathlib.Core.Bool.{not}
 use native.Mathlib.Omega.{arith}
+use borrow.Author.Rules.{rules}
 use Rattle.bags.specs.Runs.{bags_in}
 use Rattle.kept.specs.Pieces.{pieces}
 use Rattle.kept.specs.Access.{accessed}
@@ -38,7 +38,7 @@ returns-then-not-in_some_bag c =
     let room = c.requires.room in
     let here = c.requires.location_lt_piece_size in
     let one = c.requires.location_value in
-    let stray = one_stray bags given.location given.entry lent given.slots room here _ one (c.in_some_bag.ensures.bags _ _ c.requires.bags_room) (ap not c.if-not-in_some_bag.true) in
+    let stray = one_stray bags given.location given.entry lent given.slots room here _ one (c.in_some_bag.ensures.bags _ _ c.requires.bags_room) (search rules) in
     record { result = answer_no_bag bags given.location given.entry lent _ stray; pieces = refl }
 
 pub offset_bounds-sets-slot : goal.offset_bounds-sets-slot
@@ -88,7 +88,7 @@ returns-then-seen-ne0 c =
     let room = c.requires.room in
     let here = c.requires.location_lt_piece_size in
     let one = c.requires.location_value in
-    let bagged = one_bagged bags given.location given.entry lent given.slots room here _ one (c.in_some_bag.ensures.bags _ _ c.requires.bags_room) (ap not c.if-not-in_some_bag.false) in
+    let bagged = one_bagged bags given.location given.entry lent given.slots room here _ one (c.in_some_bag.ensures.bags _ _ c.requires.bags_room) (search rules) in
     let told = one_told bags given.location given.entry lent given.slots room here (given.first - 1) one given.first
     (omega (arith, c.requires.first_nonzero)) c.weigh-weighed.result c.nothing-none.result c.and-seen.result c.nothing-none.ensures
     c.weigh-weighed.ensures c.and-seen.ensures in
@@ -128,7 +128,7 @@ returns-then-seen c =
     let room = c.requires.room in
     let here = c.requires.location_lt_piece_size in
     let one = c.requires.location_value in
-    let bagged = one_bagged bags given.location given.entry lent given.slots room here _ one (c.in_some_bag.ensures.bags _ _ c.requires.bags_room) (ap not c.if-not-in_some_bag.false) in
+    let bagged = one_bagged bags given.location given.entry lent given.slots room here _ one (c.in_some_bag.ensures.bags _ _ c.requires.bags_room) (search rules) in
     let told = one_told bags given.location given.entry lent given.slots room here (given.first - 1) one given.first
     (omega (arith, c.requires.first_nonzero)) c.weigh-weighed.result c.nothing-none.result c.and-seen.result c.nothing-none.ensures
     c.weigh-weighed.ensures c.and-seen.ensures in
@@ -148,7 +148,7 @@ returns-then-is_full c =
     let room = c.requires.room in
     let here = c.requires.location_lt_piece_size in
     let one = c.requires.location_value in
-    let bagged = one_bagged bags given.location given.entry lent given.slots room here _ one (c.in_some_bag.ensures.bags _ _ c.requires.bags_room) (ap not c.if-not-in_some_bag.false) in
+    let bagged = one_bagged bags given.location given.entry lent given.slots room here _ one (c.in_some_bag.ensures.bags _ _ c.requires.bags_room) (search rules) in
     let told = one_told bags given.location given.entry lent given.slots room here (given.first - 1) one given.first
     (omega (arith, c.requires.first_nonzero)) c.weigh-weighed.result c.nothing-none.result c.and-seen.result c.nothing-none.ensures
     c.weigh-weighed.ensures c.and-seen.ensures in
@@ -191,7 +191,7 @@ returns c =
     let room = c.requires.room in
     let here = c.requires.location_lt_piece_size in
     let one = c.requires.location_value in
-    let bagged = one_bagged bags given.location given.entry lent given.slots room here _ one (c.in_some_bag.ensures.bags _ _ c.requires.bags_room) (ap not c.if-not-in_some_bag.false) in
+    let bagged = one_bagged bags given.location given.entry lent given.slots room here _ one (c.in_some_bag.ensures.bags _ _ c.requires.bags_room) (search rules) in
     let told = one_told bags given.location given.entry lent given.slots room here (given.first - 1) one given.first
     (omega (arith, c.requires.first_nonzero)) c.weigh-weighed.result c.nothing-none.result c.and-seen.result c.nothing-none.ensures
     c.weigh-weighed.ensures c.and-seen.ensures in
