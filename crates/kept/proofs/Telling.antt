@@ -281,3 +281,13 @@ module _ (bs : List Bags) (x : ℕ) (e : Entry) (p : Pieces) (slots : Slots) whe
   looked_all seen walkable is =
       either_way (some_stray bs e p.procedures p.sets (slots_of p.heads p.links x)) (λ q. absurd (stray_or_all (sym (rw q at is))))
       (λ q. (sym stray_is ∙ q, all_is (rw q at is)))
+
+  -- So all that is told of a list follows from what looking at it gives.
+  pub looked_tells : (seen : Seen) → Room p slots → x < piece_size → All seen ≡ looked
+      → (any (in_no_bag bs) (lists_in p x) ≡ false)
+      × (seen ≡ seen_over bs e p.procedures p.sets (slots_of p.heads p.links x) nothing_seen)
+      × Told bs x e p slots seen
+  looked_tells seen room here is =
+      let walkable = room_walkable p slots x room here in
+      let all = looked_all seen walkable is in
+      (all.0, all.1, seen_tells bs x e p slots seen walkable all.1)

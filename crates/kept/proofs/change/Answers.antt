@@ -1,46 +1,41 @@
 -- `change` unlinks and appends: each way out is a law of `Accepting`. Assumes nothing.
 use native.Mathlib.Omega.{arith}
-use Rattle.bags.specs.Runs.{bags_in}
 use Rattle.kept.specs.Pieces.{pieces}
 use Rattle.kept.proofs.Telling.{seen_tells, dropped_counted, room_walkable}
 use Rattle.kept.proofs.Accepting.{left_out, append_fits, entry_added}
 use Rattle.kept.proofs.change.Goals as goal
 
-pub prune-pruned-requires : goal.prune-pruned-requires
-prune-pruned-requires c =
-    let given = c.args in
-    let lent = pieces given.heads.now given.links.now given.events.now given.procedures.now given.sets.now in
-    let held = c.requires.room in
-    let told = seen_tells (bags_in given.starts.now given.joins.now given.pairs) given.location given.entry lent given.slots _ (room_walkable _ _ _ held c.requires.location_lt_piece_size) c.requires.seen_value in
-    record {
-      bags_room = c.requires.bags_room;
-      location_lt_piece_size = c.requires.location_lt_piece_size;
-      piece_size_in_bounds = held.fits.heads_fit;
-      piece_size_in_bounds_2 = held.fits.links_fit;
-      piece_size_in_bounds_3 = held.fits.procedures_fit;
-      piece_size_in_bounds_4 = held.fits.sets_fit;
-      laid_out = held.laid_out;
-      count_value = dropped_counted _ _ _ _ _ _ told;
-      first_dropped = told.first_told;
-    }
+pub prune-pruned-requires-clause-count_value : goal.prune-pruned-requires-clause-count_value
+prune-pruned-requires-clause-count_value c =
+    let lent = pieces c.args.heads.now c.args.links.now c.args.events.now c.args.procedures.now c.args.sets.now in
+    let room = c.requires.room in
+    let here = c.requires.location_lt_piece_size in
+    let told = seen_tells _ _ _ lent c.args.slots _ (room_walkable lent _ _ room here) c.requires.seen_value in
+    dropped_counted _ _ _ lent _ _ told
+
+pub prune-pruned-requires-clause-first_dropped : goal.prune-pruned-requires-clause-first_dropped
+prune-pruned-requires-clause-first_dropped c =
+    let lent = pieces c.args.heads.now c.args.links.now c.args.events.now c.args.procedures.now c.args.sets.now in
+    let room = c.requires.room in
+    let here = c.requires.location_lt_piece_size in
+    let told = seen_tells _ _ _ lent c.args.slots _ (room_walkable lent _ _ room here) c.requires.seen_value in
+    told.first_told
 
 pub returns-then-seen : goal.returns-then-seen
 returns-then-seen c =
-    let given = c.args in
-    let lent = pieces given.heads.now given.links.now given.events.now given.procedures.now given.sets.now in
+    let lent = pieces c.args.heads.now c.args.links.now c.args.events.now c.args.procedures.now c.args.sets.now in
     let room = c.requires.room in
     let here = c.requires.location_lt_piece_size in
-    let told = seen_tells (bags_in given.starts.now given.joins.now given.pairs) given.location given.entry lent given.slots _ (room_walkable _ _ _ room here) c.requires.seen_value in
-    let h = left_out _ _ _ _ _ room here _ told _ _ _ c.prune-pruned.ensures c.if-seen.true in
-    record { result = h.0; pieces = h.1 }
+    let told = seen_tells _ _ _ lent c.args.slots _ (room_walkable lent _ _ room here) c.requires.seen_value in
+    let out = left_out _ _ _ _ _ room here _ told _ _ _ c.prune-pruned.ensures c.if-seen.true in
+    record { result = out.0; pieces = out.1 }
 
 pub append-requires : goal.append-requires
 append-requires c =
-    let given = c.args in
-    let lent = pieces given.heads.now given.links.now given.events.now given.procedures.now given.sets.now in
+    let lent = pieces c.args.heads.now c.args.links.now c.args.events.now c.args.procedures.now c.args.sets.now in
     let room = c.requires.room in
     let here = c.requires.location_lt_piece_size in
-    let told = seen_tells (bags_in given.starts.now given.joins.now given.pairs) given.location given.entry lent given.slots _ (room_walkable _ _ _ room here) c.requires.seen_value in
+    let told = seen_tells _ _ _ lent c.args.slots _ (room_walkable lent _ _ room here) c.requires.seen_value in
     let rest = c.prune-pruned.ensures in
     let fits = append_fits _ _ _ _ _ room here _ told _ _ _ rest c.if-seen.false c.requires.slots_value in
     record {
@@ -57,12 +52,11 @@ append-requires c =
 
 pub returns : goal.returns
 returns c =
-    let given = c.args in
-    let lent = pieces given.heads.now given.links.now given.events.now given.procedures.now given.sets.now in
+    let lent = pieces c.args.heads.now c.args.links.now c.args.events.now c.args.procedures.now c.args.sets.now in
     let room = c.requires.room in
     let here = c.requires.location_lt_piece_size in
-    let told = seen_tells (bags_in given.starts.now given.joins.now given.pairs) given.location given.entry lent given.slots _ (room_walkable _ _ _ room here) c.requires.seen_value in
+    let told = seen_tells _ _ _ lent c.args.slots _ (room_walkable lent _ _ room here) c.requires.seen_value in
     let left = c.append.ensures in
-    let h = entry_added _ _ _ _ _ room here _ told _ _ _ c.prune-pruned.ensures c.if-seen.false c.requires.slots_value left.result left.heads
+    let added = entry_added _ _ _ _ _ room here _ told _ _ _ c.prune-pruned.ensures c.if-seen.false c.requires.slots_value left.result left.heads
     left.links left.events left.procedures left.sets in
-    record { result = h.0; pieces = h.1 }
+    record { result = added.0; pieces = added.1 }

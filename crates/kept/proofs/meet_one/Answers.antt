@@ -1,9 +1,8 @@
 -- `meet_one` weighs the entry, and refuses or changes: each way out is a law of `One` or of `Accepting`. Assumes nothing.
-use Prim.Native.Nat.{◌-◌}
-use mathlib.Core.Path.{refl, sym, ap, ◌∙◌}
+use mathlib.Core.Path.{sym, ap, ◌∙◌}
+use mathlib.Core.List.{[]}
 use native.Mathlib.Omega.{arith}
 use borrow.Author.Rules.{rules}
-use Rattle.bags.specs.Runs.{bags_in}
 use Rattle.kept.specs.Pieces.{pieces}
 use Rattle.kept.specs.Access.{accessed}
 use Rattle.kept.proofs.Accepting.{answer_no_bag, answer_full, answer_done, omitted_not_full, left_out, append_fits, entry_added}
@@ -11,92 +10,39 @@ use Rattle.kept.proofs.One.{one_fits, one_stray, one_bagged, one_told, nothing_p
 use Rattle.kept.proofs.meet_one.Goals as goal
 
 pub offset_bounds-procedures-slot : goal.offset_bounds-procedures-slot
-offset_bounds-procedures-slot c =
-    let given = c.args in
-    let bags = bags_in given.starts.now given.joins.now given.pairs in
-    let lent = pieces given.heads.now given.links.now given.events.now given.procedures.now given.sets.now in
-    let room = c.requires.room in
-    let here = c.requires.location_lt_piece_size in
-    let one = c.requires.location_value in
-    omega (arith, one_fits bags given.location given.entry lent given.slots room here (given.first - 1) one)
+offset_bounds-procedures-slot c = omega (arith, one_fits [] _ c.args.entry _ _ c.requires.room c.requires.location_lt_piece_size _ c.requires.location_value)
 
 pub bounds-procedures-slot : goal.bounds-procedures-slot
-bounds-procedures-slot c =
-    let given = c.args in
-    let bags = bags_in given.starts.now given.joins.now given.pairs in
-    let lent = pieces given.heads.now given.links.now given.events.now given.procedures.now given.sets.now in
-    let room = c.requires.room in
-    let here = c.requires.location_lt_piece_size in
-    let one = c.requires.location_value in
-    omega (arith, room.fits.procedures_fit, one_fits bags given.location given.entry lent given.slots room here (given.first - 1) one)
+bounds-procedures-slot c = omega (arith, c.requires.room.fits.procedures_fit, one_fits [] _ c.args.entry _ _ c.requires.room c.requires.location_lt_piece_size _ c.requires.location_value)
 
-pub returns-then-not-in_some_bag : goal.returns-then-not-in_some_bag
-returns-then-not-in_some_bag c =
-    let given = c.args in
-    let bags = bags_in given.starts.now given.joins.now given.pairs in
-    let lent = pieces given.heads.now given.links.now given.events.now given.procedures.now given.sets.now in
-    let room = c.requires.room in
-    let here = c.requires.location_lt_piece_size in
-    let one = c.requires.location_value in
-    let stray = one_stray bags given.location given.entry lent given.slots room here _ one (c.in_some_bag.ensures.bags _ _ c.requires.bags_room) (search rules) in
-    record { result = answer_no_bag bags given.location given.entry lent _ stray; pieces = refl }
+pub returns-then-not-in_some_bag-clause-result : goal.returns-then-not-in_some_bag-clause-result
+returns-then-not-in_some_bag-clause-result c =
+    let lent = pieces c.args.heads.now c.args.links.now c.args.events.now c.args.procedures.now c.args.sets.now in
+    answer_no_bag _ _ _ lent _ (one_stray _ _ c.args.entry lent _ c.requires.room c.requires.location_lt_piece_size _ c.requires.location_value (c.in_some_bag.ensures.bags _ _ c.requires.bags_room) (search rules))
 
 pub offset_bounds-sets-slot : goal.offset_bounds-sets-slot
-offset_bounds-sets-slot c =
-    let given = c.args in
-    let bags = bags_in given.starts.now given.joins.now given.pairs in
-    let lent = pieces given.heads.now given.links.now given.events.now given.procedures.now given.sets.now in
-    let room = c.requires.room in
-    let here = c.requires.location_lt_piece_size in
-    let one = c.requires.location_value in
-    omega (arith, one_fits bags given.location given.entry lent given.slots room here (given.first - 1) one)
+offset_bounds-sets-slot c = omega (arith, one_fits [] _ c.args.entry _ _ c.requires.room c.requires.location_lt_piece_size _ c.requires.location_value)
 
 pub bounds-sets-slot : goal.bounds-sets-slot
-bounds-sets-slot c =
-    let given = c.args in
-    let bags = bags_in given.starts.now given.joins.now given.pairs in
-    let lent = pieces given.heads.now given.links.now given.events.now given.procedures.now given.sets.now in
-    let room = c.requires.room in
-    let here = c.requires.location_lt_piece_size in
-    let one = c.requires.location_value in
-    omega (arith, room.fits.sets_fit, one_fits bags given.location given.entry lent given.slots room here (given.first - 1) one)
+bounds-sets-slot c = omega (arith, c.requires.room.fits.sets_fit, one_fits [] _ c.args.entry _ _ c.requires.room c.requires.location_lt_piece_size _ c.requires.location_value)
 
-pub and-seen-requires : goal.and-seen-requires
-and-seen-requires c =
-    record { visits_lt_piece_size = rw c.nothing-none.ensures (omega arith); dropped_le_visits = rw c.nothing-none.ensures (omega arith) }
-
-pub store-requires : goal.store-requires
-store-requires c =
-    let given = c.args in
-    let bags = bags_in given.starts.now given.joins.now given.pairs in
-    let lent = pieces given.heads.now given.links.now given.events.now given.procedures.now given.sets.now in
-    let room = c.requires.room in
-    let here = c.requires.location_lt_piece_size in
-    let one = c.requires.location_value in
-    record {
-      slot_lt_piece_size = one_fits bags given.location given.entry lent given.slots room here (given.first - 1) one;
-      piece_size_in_bounds = room.fits.events_fit;
-      piece_size_in_bounds_2 = room.fits.procedures_fit;
-      piece_size_in_bounds_3 = room.fits.sets_fit;
-    }
+pub store-requires-clause-slot_lt_piece_size : goal.store-requires-clause-slot_lt_piece_size
+store-requires-clause-slot_lt_piece_size c = one_fits [] _ c.args.entry _ _ c.requires.room c.requires.location_lt_piece_size _ c.requires.location_value
 
 pub returns-then-seen-ne0 : goal.returns-then-seen-ne0
 returns-then-seen-ne0 c =
-    let given = c.args in
-    let bags = bags_in given.starts.now given.joins.now given.pairs in
-    let lent = pieces given.heads.now given.links.now given.events.now given.procedures.now given.sets.now in
+    let lent = pieces c.args.heads.now c.args.links.now c.args.events.now c.args.procedures.now c.args.sets.now in
     let room = c.requires.room in
     let here = c.requires.location_lt_piece_size in
     let one = c.requires.location_value in
-    let bagged = one_bagged bags given.location given.entry lent given.slots room here _ one (c.in_some_bag.ensures.bags _ _ c.requires.bags_room) (search rules) in
-    let told = one_told bags given.location given.entry lent given.slots room here (given.first - 1) one given.first
-    (omega (arith, c.requires.first_nonzero)) c.weigh-weighed.result c.nothing-none.result c.and-seen.result c.nothing-none.ensures
-    c.weigh-weighed.ensures c.and-seen.ensures in
+    let bagged = one_bagged _ _ c.args.entry lent _ room here _ one (c.in_some_bag.ensures.bags _ _ c.requires.bags_room) (search rules) in
+    let told = one_told _ _ _ lent _ room here _ one c.args.first (omega (arith, c.requires.first_nonzero)) c.weigh-weighed.result
+    c.nothing-none.result c.and-seen.result c.nothing-none.ensures c.weigh-weighed.ensures c.and-seen.ensures in
     let left = c.store.ensures in
     let gone = c.if-seen-ne0.true in
-    let after = renewed bags given.location given.entry lent given.slots room here _ one _ told gone left.events left.procedures left.sets in
-    let nobody = one_nobody bags given.location given.entry lent given.slots room here _ one _ told gone in
-    let not_full = one_not_full bags given.location given.entry lent given.slots room here _ one _ told gone in
+    let after = renewed _ _ _ lent _ room here _ one _ told gone left.events left.procedures left.sets in
+    let nobody = one_nobody _ _ _ lent _ room here _ one _ told gone in
+    let not_full = one_not_full _ _ _ lent _ room here _ one _ told gone in
     record {
       result = answer_done _ _ _ _ _ room here _ told _ _ bagged not_full nobody ∙ ap (accessed _ _ _ _) after.0;
       pieces = after.1;
@@ -104,15 +50,12 @@ returns-then-seen-ne0 c =
 
 pub named_at-race-requires : goal.named_at-race-requires
 named_at-race-requires c =
-    let given = c.args in
-    let bags = bags_in given.starts.now given.joins.now given.pairs in
-    let lent = pieces given.heads.now given.links.now given.events.now given.procedures.now given.sets.now in
+    let lent = pieces c.args.heads.now c.args.links.now c.args.events.now c.args.procedures.now c.args.sets.now in
     let room = c.requires.room in
     let here = c.requires.location_lt_piece_size in
     let one = c.requires.location_value in
-    let told = one_told bags given.location given.entry lent given.slots room here (given.first - 1) one given.first
-    (omega (arith, c.requires.first_nonzero)) c.weigh-weighed.result c.nothing-none.result c.and-seen.result c.nothing-none.ensures
-    c.weigh-weighed.ensures c.and-seen.ensures in
+    let told = one_told _ _ _ lent _ room here _ one c.args.first (omega (arith, c.requires.first_nonzero)) c.weigh-weighed.result
+    c.nothing-none.result c.and-seen.result c.nothing-none.ensures c.weigh-weighed.ensures c.and-seen.ensures in
     let small = told.race_fit in
     record {
       at_in_bounds = omega (arith, small, room.fits.events_fit);
@@ -122,53 +65,41 @@ named_at-race-requires c =
 
 pub returns-then-seen : goal.returns-then-seen
 returns-then-seen c =
-    let given = c.args in
-    let bags = bags_in given.starts.now given.joins.now given.pairs in
-    let lent = pieces given.heads.now given.links.now given.events.now given.procedures.now given.sets.now in
+    let lent = pieces c.args.heads.now c.args.links.now c.args.events.now c.args.procedures.now c.args.sets.now in
     let room = c.requires.room in
     let here = c.requires.location_lt_piece_size in
     let one = c.requires.location_value in
-    let bagged = one_bagged bags given.location given.entry lent given.slots room here _ one (c.in_some_bag.ensures.bags _ _ c.requires.bags_room) (search rules) in
-    let told = one_told bags given.location given.entry lent given.slots room here (given.first - 1) one given.first
-    (omega (arith, c.requires.first_nonzero)) c.weigh-weighed.result c.nothing-none.result c.and-seen.result c.nothing-none.ensures
-    c.weigh-weighed.ensures c.and-seen.ensures in
-    let unchanged = nothing_pruned bags given.location given.entry lent given.slots room here _ one _ told c.if-seen-ne0.false in
+    let bagged = one_bagged _ _ c.args.entry lent _ room here _ one (c.in_some_bag.ensures.bags _ _ c.requires.bags_room) (search rules) in
+    let told = one_told _ _ _ lent _ room here _ one c.args.first (omega (arith, c.requires.first_nonzero)) c.weigh-weighed.result
+    c.nothing-none.result c.and-seen.result c.nothing-none.ensures c.weigh-weighed.ensures c.and-seen.ensures in
+    let unchanged = nothing_pruned _ _ _ lent _ room here _ one _ told c.if-seen-ne0.false in
     let out = left_out _ _ _ _ _ room here _ told _ _ _ unchanged c.if-seen.true in
-    let not_full = omitted_not_full c.and-seen.result given.slots c.if-seen.true in
+    let not_full = omitted_not_full c.and-seen.result c.args.slots c.if-seen.true in
     record {
       result = answer_done _ _ _ _ _ room here _ told _ _ bagged not_full c.named_at-race.ensures ∙ ap (accessed _ _ _ _) out.0;
       pieces = out.1;
     }
 
-pub returns-then-is_full : goal.returns-then-is_full
-returns-then-is_full c =
-    let given = c.args in
-    let bags = bags_in given.starts.now given.joins.now given.pairs in
-    let lent = pieces given.heads.now given.links.now given.events.now given.procedures.now given.sets.now in
+pub returns-then-is_full-clause-result : goal.returns-then-is_full-clause-result
+returns-then-is_full-clause-result c =
+    let lent = pieces c.args.heads.now c.args.links.now c.args.events.now c.args.procedures.now c.args.sets.now in
     let room = c.requires.room in
     let here = c.requires.location_lt_piece_size in
     let one = c.requires.location_value in
-    let bagged = one_bagged bags given.location given.entry lent given.slots room here _ one (c.in_some_bag.ensures.bags _ _ c.requires.bags_room) (search rules) in
-    let told = one_told bags given.location given.entry lent given.slots room here (given.first - 1) one given.first
-    (omega (arith, c.requires.first_nonzero)) c.weigh-weighed.result c.nothing-none.result c.and-seen.result c.nothing-none.ensures
-    c.weigh-weighed.ensures c.and-seen.ensures in
-    record {
-      result = answer_full _ _ _ _ _ room here _ told _ bagged (sym c.is_full.ensures ∙ c.if-is_full.true);
-      pieces = refl;
-    }
+    let bagged = one_bagged _ _ c.args.entry lent _ room here _ one (c.in_some_bag.ensures.bags _ _ c.requires.bags_room) (search rules) in
+    let told = one_told _ _ _ lent _ room here _ one c.args.first (omega (arith, c.requires.first_nonzero)) c.weigh-weighed.result
+    c.nothing-none.result c.and-seen.result c.nothing-none.ensures c.weigh-weighed.ensures c.and-seen.ensures in
+    answer_full _ _ _ _ _ room here _ told _ bagged (sym c.is_full.ensures ∙ c.if-is_full.true)
 
 pub append-then-requires : goal.append-then-requires
 append-then-requires c =
-    let given = c.args in
-    let bags = bags_in given.starts.now given.joins.now given.pairs in
-    let lent = pieces given.heads.now given.links.now given.events.now given.procedures.now given.sets.now in
+    let lent = pieces c.args.heads.now c.args.links.now c.args.events.now c.args.procedures.now c.args.sets.now in
     let room = c.requires.room in
     let here = c.requires.location_lt_piece_size in
     let one = c.requires.location_value in
-    let told = one_told bags given.location given.entry lent given.slots room here (given.first - 1) one given.first
-    (omega (arith, c.requires.first_nonzero)) c.weigh-weighed.result c.nothing-none.result c.and-seen.result c.nothing-none.ensures
-    c.weigh-weighed.ensures c.and-seen.ensures in
-    let unchanged = nothing_pruned bags given.location given.entry lent given.slots room here _ one _ told c.if-seen-ne0.false in
+    let told = one_told _ _ _ lent _ room here _ one c.args.first (omega (arith, c.requires.first_nonzero)) c.weigh-weighed.result
+    c.nothing-none.result c.and-seen.result c.nothing-none.ensures c.weigh-weighed.ensures c.and-seen.ensures in
+    let unchanged = nothing_pruned _ _ _ lent _ room here _ one _ told c.if-seen-ne0.false in
     let not_full = sym c.is_full.ensures ∙ c.if-is_full.false in
     let small = append_fits _ _ _ _ _ room here _ told _ _ _ unchanged c.if-seen.false not_full in
     record {
@@ -185,17 +116,14 @@ append-then-requires c =
 
 pub returns : goal.returns
 returns c =
-    let given = c.args in
-    let bags = bags_in given.starts.now given.joins.now given.pairs in
-    let lent = pieces given.heads.now given.links.now given.events.now given.procedures.now given.sets.now in
+    let lent = pieces c.args.heads.now c.args.links.now c.args.events.now c.args.procedures.now c.args.sets.now in
     let room = c.requires.room in
     let here = c.requires.location_lt_piece_size in
     let one = c.requires.location_value in
-    let bagged = one_bagged bags given.location given.entry lent given.slots room here _ one (c.in_some_bag.ensures.bags _ _ c.requires.bags_room) (search rules) in
-    let told = one_told bags given.location given.entry lent given.slots room here (given.first - 1) one given.first
-    (omega (arith, c.requires.first_nonzero)) c.weigh-weighed.result c.nothing-none.result c.and-seen.result c.nothing-none.ensures
-    c.weigh-weighed.ensures c.and-seen.ensures in
-    let unchanged = nothing_pruned bags given.location given.entry lent given.slots room here _ one _ told c.if-seen-ne0.false in
+    let bagged = one_bagged _ _ c.args.entry lent _ room here _ one (c.in_some_bag.ensures.bags _ _ c.requires.bags_room) (search rules) in
+    let told = one_told _ _ _ lent _ room here _ one c.args.first (omega (arith, c.requires.first_nonzero)) c.weigh-weighed.result
+    c.nothing-none.result c.and-seen.result c.nothing-none.ensures c.weigh-weighed.ensures c.and-seen.ensures in
+    let unchanged = nothing_pruned _ _ _ lent _ room here _ one _ told c.if-seen-ne0.false in
     let left = c.append-then.ensures in
     let not_full = sym c.is_full.ensures ∙ c.if-is_full.false in
     let added = entry_added _ _ _ _ _ room here _ told _ _ _ unchanged c.if-seen.false not_full left.result left.heads left.links

@@ -49,9 +49,6 @@ bounds-links-slot-then-drops c = omega (arith, c.relink.auto.links, c.requires.p
 pub overflow_cast-freed : goal.overflow_cast-freed
 overflow_cast-freed c = omega (arith, prune_inside _ _ _ _ _ c.requires.location_lt_piece_size _ _ _ _ _ _ c.loop-left.invariant c.loop-left-test.true)
 
-pub overflow_sub-left : goal.overflow_sub-left
-overflow_sub-left c = omega (arith, c.loop-left-test.true)
-
 -- The step from a turn of the loop to the state after it, where the slot is dropped and where it stays.
 pub loop-left-smaller-then-drops : goal.loop-left-smaller-then-drops
 loop-left-smaller-then-drops c = prune_falls _ _ _ _ _ c.requires.location_lt_piece_size _ _ _ _ _ _ _ _ _ _ _ _ c.loop-left.invariant
@@ -70,12 +67,6 @@ loop-left-smaller c = prune_falls _ _ _ _ _ c.requires.location_lt_piece_size _ 
 pub loop-left-preserved : goal.loop-left-preserved
 loop-left-preserved c = (prune_stays _ _ _ _ _ c.requires.location_lt_piece_size _ _ _ _ _ _ c.loop-left.invariant _ c.loop-left-test.true
     (sym c.drops.ensures ∙ c.if-drops.false) c.wide-onward.ensures).0
-
-pub shape_of-heads : goal.shape_of-heads
-shape_of-heads c = c.loop-left.invariant.heads_rest.same_length
-
-pub shape_of-links : goal.shape_of-links
-shape_of-links c = c.loop-left.invariant.links_rest.same_length
 
 pub returns : goal.returns
 returns c = prune_ends _ _ _ _ _ c.requires.location_lt_piece_size _ _ _ _ _ _ c.loop-left.invariant c.loop-left-test.false
