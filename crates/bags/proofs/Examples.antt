@@ -10,12 +10,12 @@ use lib.ListN.{get_or}
 use Rattle.bags.specs.declared.ask.Answer.{Answer}
 use Rattle.bags.specs.declared.ask.Answer.TheVariants.{InSeries, InParallel, InNoBag}
 use Rattle.bags.specs.declared.ask.Pairs.{Pairs}
-use Rattle.bags.specs.declared.Spawned.TheVariants.{Begun, Full}
+use Rattle.std.specs.Prelude.{Ok, Err}
 use Rattle.bags.specs.Parallel.{Act, spawn, return, sync, other, member, begun_after, opens_after, begun, opens, is_main_open, maker, Parallel, Precedes}
 use Rattle.bags.specs.Bags.{bags_of_new, synced, handed, bags_after, bags, in_s_bag, in_p_bag, bags_say_parallel, in_some_bag}
 use Rattle.bags.specs.Runs.{numbers_from, run, as_bags, pairs_in, bags_in}
 use Rattle.bags.specs.Ask.{answer_for}
-use Rattle.bags.specs.Steps.{runner, Begins, Carries, spawned, pushed}
+use Rattle.bags.specs.Steps.{runner, Begins, Carries, spawned, pairs_after, pushed}
 use Rattle.bags.proofs.Laws.{bags_agree}
 
 -- The events of a list, by their numbers.
@@ -106,7 +106,7 @@ unfolding events_of parallel_with parallel_pairs member begun_after opens_after 
 all_as_known = refl
 
 other_no_return : other ≢ return
-other_no_return e = let z : ◌≡◌ {A = ℕ} 0 1 = cc in omega arith
+other_no_return e = cc
 
 -- The definition itself, on the first of them: spawn 0, made by main, has its matching return 2 with 0 < 1 < 2 < 3, and nothing lies between 2 and 3.
 pub spawned_write : Parallel (events_of (spawn ∷ other ∷ return ∷ other ∷ return ∷ [])) 1 3
@@ -173,12 +173,14 @@ pub pieces_as_known :
     × (in_some_bag 4 (bags_in (0 ∷ 1 ∷ 3 ∷ []) (1 ∷ 2 ∷ 4 ∷ []) three_runs) ≡ false)
     × (answers (0 ∷ 1 ∷ 2 ∷ 3 ∷ 4 ∷ []) (1 ∷ 2 ∷ 3 ∷ 4 ∷ 5 ∷ []) five_open (0 ∷ 1 ∷ 2 ∷ 3 ∷ 4 ∷ 5 ∷ [])
     ≡ InSeries ∷ InSeries ∷ InSeries ∷ InSeries ∷ InSeries ∷ InNoBag ∷ [])
-    × (spawned one_left ≡ Begun (record { count = 3; begun = 4096; start = 4095; join = 4096 }))
-    × (spawned none_left ≡ Full)
+    × (spawned one_left ≡ Ok tt)
+    × (spawned none_left ≡ Err (record {}))
+    × (pairs_after one_left ≡ record { count = 3; begun = 4096; start = 4095; join = 4096 })
+    × (pairs_after none_left ≡ none_left)
     × (pushed one_left 7 (0 ∷ 1 ∷ 3 ∷ []) ≡ 0 ∷ 1 ∷ 7 ∷ [])
     × (pushed none_left 7 (0 ∷ 1 ∷ 3 ∷ []) ≡ 0 ∷ 1 ∷ 3 ∷ [])
-unfolding member in_s_bag in_p_bag numbers_from run as_bags pairs_in bags_in answer_for in_some_bag runner head_d spawned pushed
-pieces_as_known = (refl, refl, refl, refl, refl, refl, refl, refl, refl, refl, refl)
+unfolding member in_s_bag in_p_bag numbers_from run as_bags pairs_in bags_in answer_for in_some_bag runner head_d spawned pairs_after pushed
+pieces_as_known = (refl, refl, refl, refl, refl, refl, refl, refl, refl, refl, refl, refl, refl)
 
 -- ---- Pieces that break a contract -------------------------------------------------------------------------------------------------------------
 

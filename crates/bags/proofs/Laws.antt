@@ -1,5 +1,6 @@
 -- The theorems of specs/Theorems.antt and specs/Holds.antt, and a few consequences for the layers above, which cite what stands here and nothing else of
 -- this crate's proofs. Assumes nothing.
+pub use Rattle.bags.proofs.Pieces.{pushed_length}
 use Prim.Native.Nat.{ℕ, suc, ◌<◌}
 use mathlib.Core.Path.{◌≡◌, refl, sym, ap, ap₂, ◌∙◌}
 use mathlib.Core.Logic.Iff
@@ -175,7 +176,7 @@ says_parallel_lem true = (λ e. refl, λ e. refl)
 says_parallel_lem false = (λ e. cc, λ e. cc)
 
 says_series : (P : Bool) → (cond P InParallel (cond (not P) InSeries InNoBag) ≡ InSeries) ↔ (P ≡ true → ⊥)
-says_series true = (λ e yes. let z : ◌≡◌ {A = ℕ} 0 1 = cc in omega arith, λ none. absurd (none refl))
+says_series true = (λ e yes. cc, λ none. absurd (none refl))
 says_series false = (λ e yes. true≢false (sym yes), λ none. refl)
 
 pub ask_agrees : (events : ℕ → Act) → AskAgrees events

@@ -4,29 +4,33 @@ use Prim.Native.Nat.{ℕ}
 use mathlib.Core.Path.{◌≡◌, sym, ap, ◌∙◌}
 use Rattle.outcome.specs.Outcome.{OneResult, OneLeft}
 use Rattle.bags.specs.declared.ask.ProcedureNumber.{ProcedureNumber}
-use Rattle.bags.proofs.begin.Reads as begin_contract
-use Rattle.bags.proofs.spawn.Reads as spawn_contract
-use Rattle.bags.proofs.sync.Reads as sync_contract
-use Rattle.bags.proofs.returns.Reads as returns_contract
-use Rattle.bags.proofs.running.Reads as running_contract
-use Rattle.bags.proofs.main_is_open.Reads as main_is_open_contract
-use Rattle.bags.proofs.ask.Pairs.ask.Reads as ask_contract
-use Rattle.bags.proofs.ask.Pairs.in_some_bag.Reads as in_some_bag_contract
+use Rattle.bags.proofs.ask.Runs.begin.Reads as begin_contract
+use Rattle.bags.proofs.ask.Runs.spawn.Reads as spawn_contract
+use Rattle.bags.proofs.ask.Runs.sync.Reads as sync_contract
+use Rattle.bags.proofs.ask.Runs.returns.Reads as returns_contract
+use Rattle.bags.proofs.ask.Runs.running.Reads as running_contract
+use Rattle.bags.proofs.ask.Runs.main_is_open.Reads as main_is_open_contract
+use Rattle.bags.proofs.ask.Runs.ask.Reads as ask_contract
+use Rattle.bags.proofs.ask.Runs.in_some_bag.Reads as in_some_bag_contract
 
 -- A procedure's name is its number.
 same_procedure : {x y : ProcedureNumber} {number : ℕ} → x.0 ≡ number → y.0 ≡ number → x ≡ y
 same_procedure p q = ap (λ (n : ℕ). record { 0 = n }) (p ∙ sym q)
 
 pub record NoTwoOutcomes : Type 0 where
-  pub begin : OneResult begin_contract.Post
-  pub begin_starts : OneLeft begin_contract.Post (λ κ s. s.0.now)
-  pub begin_joins : OneLeft begin_contract.Post (λ κ s. s.1.0.now)
+  pub begin_pairs : OneLeft begin_contract.Post (λ κ s. s.0.now.pairs)
+  pub begin_starts : OneLeft begin_contract.Post (λ κ s. s.0.now.starts.now)
+  pub begin_joins : OneLeft begin_contract.Post (λ κ s. s.0.now.joins.now)
   pub spawn : OneResult spawn_contract.Post
-  pub spawn_starts : OneLeft spawn_contract.Post (λ κ s. s.1.0.now)
-  pub spawn_joins : OneLeft spawn_contract.Post (λ κ s. s.1.1.0.now)
-  pub sync : OneResult sync_contract.Post
-  pub sync_joins : OneLeft sync_contract.Post (λ κ s. s.1.0.now)
-  pub returns : OneResult returns_contract.Post
+  pub spawn_pairs : OneLeft spawn_contract.Post (λ κ s. s.0.now.pairs)
+  pub spawn_starts : OneLeft spawn_contract.Post (λ κ s. s.0.now.starts.now)
+  pub spawn_joins : OneLeft spawn_contract.Post (λ κ s. s.0.now.joins.now)
+  pub sync_pairs : OneLeft sync_contract.Post (λ κ s. s.0.now.pairs)
+  pub sync_starts : OneLeft sync_contract.Post (λ κ s. s.0.now.starts.now)
+  pub sync_joins : OneLeft sync_contract.Post (λ κ s. s.0.now.joins.now)
+  pub returns_pairs : OneLeft returns_contract.Post (λ κ s. s.0.now.pairs)
+  pub returns_starts : OneLeft returns_contract.Post (λ κ s. s.0.now.starts.now)
+  pub returns_joins : OneLeft returns_contract.Post (λ κ s. s.0.now.joins.now)
   pub running : OneResult running_contract.Post
   pub main_is_open : OneResult main_is_open_contract.Post
   pub ask : OneResult ask_contract.Post
@@ -34,15 +38,19 @@ pub record NoTwoOutcomes : Type 0 where
 
 pub no_two_outcomes : NoTwoOutcomes
 no_two_outcomes = record {
-  begin = λ κ a x y s s' p q. p.0 ∙ sym q.0;
+  begin_pairs = λ κ a x y s s' p q. p.0 ∙ sym q.0;
   begin_starts = λ κ a x y s s' p q. p.1.0 ∙ sym q.1.0;
   begin_joins = λ κ a x y s s' p q. p.1.1.0 ∙ sym q.1.1.0;
   spawn = λ κ a x y s s' p q. p.0 ∙ sym q.0;
-  spawn_starts = λ κ a x y s s' p q. p.1.1.0 ∙ sym q.1.1.0;
-  spawn_joins = λ κ a x y s s' p q. p.1.1.1.0 ∙ sym q.1.1.1.0;
-  sync = λ κ a x y s s' p q. p.0 ∙ sym q.0;
-  sync_joins = λ κ a x y s s' p q. p.1.0 ∙ sym q.1.0;
-  returns = λ κ a x y s s' p q. p.0 ∙ sym q.0;
+  spawn_pairs = λ κ a x y s s' p q. p.1.1.0 ∙ sym q.1.1.0;
+  spawn_starts = λ κ a x y s s' p q. p.1.1.1.0 ∙ sym q.1.1.1.0;
+  spawn_joins = λ κ a x y s s' p q. p.1.1.1.1.0 ∙ sym q.1.1.1.1.0;
+  sync_pairs = λ κ a x y s s' p q. p.0 ∙ sym q.0;
+  sync_starts = λ κ a x y s s' p q. p.1.0 ∙ sym q.1.0;
+  sync_joins = λ κ a x y s s' p q. p.1.1.0 ∙ sym q.1.1.0;
+  returns_pairs = λ κ a x y s s' p q. p.0 ∙ sym q.0;
+  returns_starts = λ κ a x y s s' p q. p.1.0 ∙ sym q.1.0;
+  returns_joins = λ κ a x y s s' p q. p.1.1.0 ∙ sym q.1.1.0;
   running = λ κ a x y s s' p q. same_procedure p.0 q.0;
   main_is_open = λ κ a x y s s' p q. p ∙ sym q;
   ask = λ κ a x y s s' p q. p.0 ∙ sym q.0;

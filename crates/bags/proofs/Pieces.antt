@@ -6,23 +6,18 @@ use mathlib.Core.Logic.{◌≢◌}
 use mathlib.Core.Bool.{Bool, true, false, cond, not, ◌&&◌, ◌||◌, and-true, or-true, or-false, not-or_self}
 use mathlib.Core.List.{List, [], ◌∷◌, head_d, map}
 use native.Mathlib.Omega.{arith}
+use native.Mathlib.Numerals.{add-one, sub-one}
 use native.Mathlib.Decide.{dec_lt}
 use lib.Dec.{eqb, ltb, leb}
 use lib.ListN.{length, get_or, set, length-set}
 use borrow.Author.Tests.{lt-ltb, le-ltb}
 use lib.Seq.{get_or-set_same, get_or-set_other, drop-set-lt}
 use Rattle.bags.specs.declared.ask.Pairs.{Pairs}
-use Rattle.bags.specs.declared.ask.Answer.{Answer}
-use Rattle.bags.specs.declared.ask.Answer.TheVariants.{InSeries, InParallel, InNoBag}
-use Rattle.bags.specs.declared.Spawned.{Spawned}
-use Rattle.bags.specs.declared.Spawned.TheVariants.{Begun, Full}
 use Rattle.bags.specs.Parallel.{Act, member, spawn, return, sync, begun_after}
-use Rattle.bags.specs.Bags.{Bags, bags_of_new, in_p_bag, in_some_bag}
+use Rattle.bags.specs.Bags.{Bags, bags_of_new, in_s_bag, in_p_bag, in_some_bag}
 use Rattle.bags.specs.Runs.{Pair, numbers_from, run, as_bags, InOrder, pairs_in, piece_size, bags_in, Room}
-use Rattle.bags.specs.Ask.{answer_for, says_parallel, code_of}
-use Rattle.bags.specs.Search.{Found}
-use Rattle.bags.specs.Steps.{runner, RestKept, Begins, Carries, most_begun, spawned, pushed, AfterSpawn}
-use Rattle.bags.specs.Steps as steps
+use Rattle.bags.specs.Search.{Found, Rising}
+use Rattle.bags.specs.Steps.{runner, RestKept, Begins, Carries, most_begun, pushed}
 use Rattle.bags.proofs.Runs.{joined, pairs_after, bags_after_lem, in_order_after, between_under, member_run, in_none_above, in_s_or_p}
 
 -- ---- Stores -----------------------------------------------------------------------------------------------------------------------------------
@@ -50,12 +45,6 @@ pairs_spawned starts joins d n h l =
     (ap₂ (λ (a b : ℕ). record { start = a; join = b }) (get_or-set_same starts d n 0 h) (get_or-set_same joins d (suc n) 0 l))
     (same_pairs starts (set starts d n) joins (set joins d (suc n)) d (below_store starts d n) (below_store joins d (suc n)))
 
-one_more : (d : ℕ) → d + 1 ≡ suc d
-one_more d = omega arith
-
-one_less : (d : ℕ) → suc d - 1 ≡ d
-one_less d = omega arith
-
 -- a join stored at the top of d pairs is the top one's;
 pairs_synced : (starts joins : List ℕ) (d n : ℕ) → 0 < d → d ≤ length joins
     → pairs_in starts (set joins (d - 1) n) d ≡ pairs_after sync n (pairs_in starts joins d)
@@ -63,7 +52,7 @@ unfolding pairs_in pairs_after joined
 pairs_synced starts joins zero n some l = absurd (omega arith)
 pairs_synced starts joins (suc d) n some l =
     let P : ℕ → Type 0 = λ k. pairs_in starts (set joins k n) (suc d) ≡ pairs_after sync n (pairs_in starts joins (suc d)) in
-    subst P (sym (one_less d)) (ap₂ (λ (p : Pair) (ps : List Pair). p ∷ ps)
+    subst P (sym (sub-one (suc d))) (ap₂ (λ (p : Pair) (ps : List Pair). p ∷ ps)
     (ap (λ (b : ℕ). record { start = get_or starts d 0; join = b }) (get_or-set_same joins d n 0 l))
     (same_pairs starts starts joins (set joins d n) d (λ i h. refl) (below_store joins d n)))
 
@@ -71,14 +60,14 @@ pairs_synced starts joins (suc d) n some l =
 pairs_returned : (starts joins : List ℕ) (d n : ℕ) → 0 < d → pairs_in starts joins (d - 1) ≡ pairs_after return n (pairs_in starts joins d)
 unfolding pairs_in pairs_after
 pairs_returned starts joins zero n some = absurd (omega arith)
-pairs_returned starts joins (suc d) n some = rw (one_less d) refl
+pairs_returned starts joins (suc d) n some = rw (sub-one (suc d)) refl
 
 -- ---- Events -----------------------------------------------------------------------------------------------------------------------------------
 
 some_pair : (starts joins : List ℕ) (d : ℕ) → 0 < d → pairs_in starts joins d ≢ []
 unfolding pairs_in
 some_pair starts joins zero h e = omega arith
-some_pair starts joins (suc d) h e = let z : ◌≡◌ {A = ℕ} 0 1 = cc in omega arith
+some_pair starts joins (suc d) h e = cc
 
 -- A piece of the same length, with the same rest: so it is where nothing or a number in the used part was stored.
 record Kept (piece piece' : List ℕ) : Type 0 where
@@ -158,42 +147,32 @@ room_left starts joins pairs h few =
 
 -- A number stored on top is the last one then.
 last_stored : (piece : List ℕ) (d x : ℕ) → d < length piece → x ≡ get_or (set piece d x) (suc d - 1) 0
-last_stored piece d x h = rw (one_less d) (sym (get_or-set_same piece d x 0 h))
+last_stored piece d x h = rw (sub-one (suc d)) (sym (get_or-set_same piece d x 0 h))
 
 -- The pairs with a new one, which is at hand.
 abbrev with_new : Pairs → Pairs
 with_new pairs = record { count = suc pairs.count; begun = suc pairs.begun; start = pairs.begun; join = suc pairs.begun }
 
-spawns : (starts joins : List ℕ) (pairs : Pairs) → Room starts joins pairs → pairs.begun < most_begun
-    → Carries spawn starts joins pairs (set starts pairs.count pairs.begun) (set joins pairs.count (suc pairs.begun)) (with_new pairs)
+pub spawns : (starts joins : List ℕ) (pairs : Pairs) → Room starts joins pairs → pairs.begun < most_begun
+    → Carries spawn starts joins pairs (set starts pairs.count pairs.begun) (set joins pairs.count (pairs.begun + 1))
+    (record { count = pairs.count + 1; begun = pairs.begun + 1; start = pairs.begun; join = pairs.begun + 1 })
 unfolding begun_after
 spawns starts joins pairs h few =
     let left : Free starts joins pairs = room_left starts joins pairs h few in
-    carried spawn starts joins (set starts pairs.count pairs.begun) (set joins pairs.count (suc pairs.begun)) pairs (with_new pairs) h
+    rw (add-one pairs.count, add-one pairs.begun)
+    (carried spawn starts joins (set starts pairs.count pairs.begun) (set joins pairs.count (suc pairs.begun)) pairs (with_new pairs) h
     (stored starts pairs.count pairs.begun left.small) (stored joins pairs.count (suc pairs.begun) left.small) left.small refl
     (pairs_spawned starts joins pairs.count pairs.begun left.in_starts left.in_joins)
-    (last_stored starts pairs.count pairs.begun left.in_starts) (last_stored joins pairs.count (suc pairs.begun) left.in_joins)
+    (last_stored starts pairs.count pairs.begun left.in_starts) (last_stored joins pairs.count (suc pairs.begun) left.in_joins))
 
--- What `spawn` promises of an answer and of the pieces that it leaves.
-abbrev pub Spawns : List ℕ → List ℕ → Pairs → List ℕ → List ℕ → Spawned → Type 0
-Spawns starts joins pairs starts' joins' answer =
-    (answer ≡ spawned pairs)
-    × ((steps.code_of answer ≡ cond (ltb pairs.begun most_begun) 0 11)
-    × ((starts' ≡ pushed pairs pairs.begun starts)
-    × ((joins' ≡ pushed pairs (pairs.begun + 1) joins) × AfterSpawn starts joins pairs starts' joins' answer)))
-
--- The two answers.
-pub spawn_refused : (starts joins : List ℕ) (pairs : Pairs) → most_begun ≤ pairs.begun → Spawns starts joins pairs starts joins Full
-unfolding spawned pushed
-spawn_refused starts joins pairs many = rw (le-ltb _ _ many) (refl, (refl, (refl, (refl, (many, refl, refl)))))
-
-pub spawn_begins : (starts joins : List ℕ) (pairs : Pairs) → Room starts joins pairs → pairs.begun < most_begun
-    → Spawns starts joins pairs (set starts pairs.count pairs.begun) (set joins pairs.count (pairs.begun + 1))
-    (Begun (record { count = pairs.count + 1; begun = pairs.begun + 1; start = pairs.begun; join = pairs.begun + 1 }))
-unfolding spawned pushed
-spawn_begins starts joins pairs h few =
-    rw (lt-ltb _ _ few)
-    (refl, (refl, (refl, (refl, (few, rw (one_more pairs.count, one_more pairs.begun) (spawns starts joins pairs h few))))))
+-- Whatever a spawn puts on top, a piece is as long as before.
+pub pushed_length : (pairs : Pairs) (number : ℕ) (piece : List ℕ) → length (pushed pairs number piece) ≡ length piece
+unfolding pushed
+pushed_length pairs number piece = by_test (ltb pairs.begun most_begun)
+  where
+    by_test : (room : Bool) → length (cond room (set piece pairs.count number) piece) ≡ length piece
+    by_test true = length-set piece pairs.count number
+    by_test false = refl
 
 pub syncs : (starts joins : List ℕ) (pairs : Pairs) → Room starts joins pairs
     → Carries sync starts joins pairs starts (set joins (pairs.count - 1) pairs.begun)
@@ -206,30 +185,24 @@ syncs starts joins pairs h =
     (pairs_synced starts joins pairs.count pairs.begun h.main_open (omega (arith, h.joins_fit, h.pairs_fit))) h.top_start
     (sym (get_or-set_same joins (pairs.count - 1) pairs.begun 0 (omega (arith, h.main_open, h.joins_fit, h.pairs_fit))))
 
--- The pairs with one less, the one at place `at` at hand.
-abbrev pub back_to : List ℕ → List ℕ → Pairs → ℕ → Pairs
+-- The pairs with one less, the one at place `at` at hand: the one below, where there is one.
+abbrev back_to : List ℕ → List ℕ → Pairs → ℕ → Pairs
 back_to starts joins pairs at = record { count = pairs.count - 1; begun = pairs.begun; start = get_or starts at 0; join = get_or joins at 0 }
 
-returned : (starts joins : List ℕ) (pairs : Pairs) → Room starts joins pairs
-    → Carries return starts joins pairs starts joins (back_to starts joins pairs (pairs.count - 2))
+pub returned : (starts joins : List ℕ) (pairs : Pairs) (at : ℕ) → at ≡ pairs.count - 2 → Room starts joins pairs
+    → Carries return starts joins pairs starts joins (back_to starts joins pairs at)
 unfolding begun_after
-returned starts joins pairs h =
-    let below : pairs.count - 2 ≡ pairs.count - 1 - 1 = omega arith in
-    carried return starts joins starts joins pairs (back_to starts joins pairs (pairs.count - 2)) h (untouched starts) (untouched joins)
+returned starts joins pairs at e h =
+    let below : at ≡ pairs.count - 1 - 1 = omega arith in
+    carried return starts joins starts joins pairs (back_to starts joins pairs at) h (untouched starts) (untouched joins)
     (omega (arith, h.pairs_fit)) refl (pairs_returned starts joins pairs.count pairs.begun h.main_open)
     (ap (λ (i : ℕ). get_or starts i 0) below) (ap (λ (i : ℕ). get_or joins i 0) below)
-
--- What `returns` promises, if it goes back to the pair below.
-pub goes_back : (starts joins : List ℕ) (pairs : Pairs) (at : ℕ) → at ≡ pairs.count - 2
-    → (back_to starts joins pairs at ≡ back_to starts joins pairs (pairs.count - 2))
-    × (Room starts joins pairs → Carries return starts joins pairs starts joins (back_to starts joins pairs at))
-goes_back starts joins pairs at e = rw e (refl, returned starts joins pairs)
 
 -- The top pair is the running procedure's.
 runner_on_top : (starts joins : List ℕ) (d n : ℕ) → 0 < d → runner (as_bags (pairs_in starts joins d) n) ≡ get_or starts (d - 1) 0
 unfolding runner as_bags pairs_in head_d
 runner_on_top starts joins zero n some = absurd (omega arith)
-runner_on_top starts joins (suc d) n some = rw (one_less d) refl
+runner_on_top starts joins (suc d) n some = rw (sub-one (suc d)) refl
 
 pub runner_held : (starts joins : List ℕ) (pairs : Pairs) → Room starts joins pairs → pairs.start ≡ runner (bags_in starts joins pairs)
 unfolding bags_in
@@ -318,24 +291,32 @@ place_below_start starts joins (suc d) n i h l =
     same : (i : ℕ) → i ≡ d → i ≤ get_or starts i 0
     same i e = rw e (pairs_begun starts joins d (get_or starts d 0) h.2)
 
--- What the search asks for, the top pair starting above p.
-pub searchable : (starts joins : List ℕ) (pairs : Pairs) (p : ℕ) → Room starts joins pairs → p < pairs.start
-    → (pairs.count - 1 < length starts) × ((pairs.count - 1 < piece_size) × ((get_or starts 0 0 ≤ p)
-    × ((p < get_or starts (pairs.count - 1) 0) × ((i : ℕ) → i ≤ pairs.count - 1 → i ≤ get_or starts i 0))))
-searchable starts joins pairs p h above =
-    let lowest : get_or starts 0 0 ≡ 0 = lowest_start starts joins pairs.count pairs.begun h.in_order h.main_open in (
-      omega (arith, h.main_open, h.pairs_fit, h.starts_fit),
-      (
-        omega (arith, h.main_open, h.pairs_fit),
-        (
-          omega arith,
-          (
-            omega (arith, h.top_start),
-            λ i l. place_below_start starts joins pairs.count pairs.begun i h.in_order (omega (arith, h.main_open)),
-          ),
-        ),
-      ),
-    )
+-- The higher of two places has the higher start.
+start_rises : (starts joins : List ℕ) (d n i j : ℕ) → InOrder (pairs_in starts joins d) n → i ≤ j → j < d → get_or starts i 0 ≤ get_or starts j 0
+unfolding InOrder pairs_in
+start_rises starts joins zero n i j h l m = absurd (omega arith)
+start_rises starts joins (suc d) n i j h l m =
+    elim (dec_lt j d) [
+      | yes below ↦ start_rises starts joins d (get_or starts d 0) i j h.2 l below
+      | no top ↦ same j (omega arith) l
+    ]
+  where
+    same : (j : ℕ) → j ≡ d → i ≤ j → get_or starts i 0 ≤ get_or starts j 0
+    same j e l =
+        rw e (elim (dec_lt i d) [
+          | yes below ↦ omega (arith, starts_below_end starts joins d (get_or starts d 0) i h.2 below)
+          | no there ↦ let f : i ≡ d = omega arith in rw f (omega arith)
+        ])
+
+-- What the search asks for: main's pair starts at 0, and the starts rise up to the top.
+pub main_starts : (starts joins : List ℕ) (pairs : Pairs) → Room starts joins pairs → get_or starts 0 0 ≡ 0
+main_starts starts joins pairs h = lowest_start starts joins pairs.count pairs.begun h.in_order h.main_open
+
+pub starts_rise : (starts joins : List ℕ) (pairs : Pairs) → Room starts joins pairs → Rising starts (pairs.count - 1)
+starts_rise starts joins pairs h = record {
+  rises = λ i j l m. start_rises starts joins pairs.count pairs.begun i j h.in_order l (omega (arith, h.main_open));
+  at_least = λ i l. place_below_start starts joins pairs.count pairs.begun i h.in_order (omega (arith, h.main_open));
+}
 
 -- Yes or no: p is told by the join of the pair that holds it, which may be the last one, at hand.
 pub found_tells : (starts joins : List ℕ) (pairs : Pairs) (p at : ℕ) → Room starts joins pairs → p < pairs.begun → Found starts (pairs.count - 1) p at
@@ -353,40 +334,31 @@ top_tells starts joins pairs p h below from =
     ∙ found_tells starts joins pairs p (pairs.count - 1) h below
     (record { within = omega arith; starts_below = omega (arith, h.top_start); next_above = λ l. absurd (omega arith) })
 
--- What `ask` promises of an answer.
-abbrev pub Answers : List ℕ → List ℕ → Pairs → ℕ → Answer → Type 0
-Answers starts joins pairs p answer =
-    let bs = bags_in starts joins pairs in
-    (answer ≡ answer_for p bs) × ((says_parallel answer ≡ in_p_bag p bs) × (code_of answer ≡ cond (in_some_bag p bs) 0 12))
+-- By these `is_parallel` meets its contract.
+pub ruleset tells = (main_starts, starts_rise, top_tells, found_tells)
 
--- Its answers: p has not begun, or is in a P-bag or not.
-pub above_in_no_bag : (starts joins : List ℕ) (pairs : Pairs) (p : ℕ) → Room starts joins pairs → pairs.begun ≤ p → Answers starts joins pairs p InNoBag
-unfolding bags_in answer_for in_some_bag
-above_in_no_bag starts joins pairs p h above =
+-- p has not begun, and is in no bag; or it has, and is in an S-bag or a P-bag.
+pub in_no_bag : (starts joins : List ℕ) (pairs : Pairs) (p : ℕ) → Room starts joins pairs → pairs.begun ≤ p
+    → (in_p_bag p (bags_in starts joins pairs) ≡ false) × (in_s_bag p (bags_in starts joins pairs) ≡ false)
+unfolding bags_in
+in_no_bag starts joins pairs p h above =
     let none = in_none_above p pairs.begun (pairs_in starts joins pairs.count) h.in_order above in
-    rw (ap (λ (u : ℕ × Bool × Bool). u.2) none, ap (λ (u : ℕ × Bool × Bool). u.1) none) (refl, (refl, refl))
+    (ap (λ (u : ℕ × Bool × Bool). u.2) none, ap (λ (u : ℕ × Bool × Bool). u.1) none)
 
-pub told_answer : (starts joins : List ℕ) (pairs : Pairs) (p : ℕ) (says : Bool) → Room starts joins pairs → p < pairs.begun
-    → says ≡ in_p_bag p (bags_in starts joins pairs) → Answers starts joins pairs p (cond says InParallel InSeries)
-unfolding bags_in answer_for in_some_bag
-told_answer starts joins pairs p says h below e =
-    rw (in_s_or_p p pairs.begun (pairs_in starts joins pairs.count) h.in_order below, sym e) (either says)
-  where
-    either : (b : Bool)
-        → (cond b InParallel InSeries ≡ cond b InParallel (cond (not b) InSeries InNoBag))
-        × ((says_parallel (cond b InParallel InSeries) ≡ b) × (code_of (cond b InParallel InSeries) ≡ cond (not b || b) 0 12))
-    either true = (refl, (refl, refl))
-    either false = (refl, (refl, refl))
+pub in_a_bag : (starts joins : List ℕ) (pairs : Pairs) (p : ℕ) → Room starts joins pairs → p < pairs.begun
+    → in_s_bag p (bags_in starts joins pairs) ≡ not (in_p_bag p (bags_in starts joins pairs))
+unfolding bags_in
+in_a_bag starts joins pairs p h below = in_s_or_p p pairs.begun (pairs_in starts joins pairs.count) h.in_order below
 
 -- Whoever has begun is in a bag, and nobody else.
 pub in_some : (starts joins : List ℕ) (pairs : Pairs) (p : ℕ) → Room starts joins pairs → ltb p pairs.begun ≡ in_some_bag p (bags_in starts joins pairs)
-unfolding bags_in in_some_bag
+unfolding in_some_bag
 in_some starts joins pairs p h =
     elim (dec_lt p pairs.begun) [
       | yes below ↦
-          rw (lt-ltb _ _ below, in_s_or_p p pairs.begun (pairs_in starts joins pairs.count) h.in_order below)
-          (sym (not-or_self (in_p_bag p (as_bags (pairs_in starts joins pairs.count) pairs.begun))))
+          rw (lt-ltb _ _ below, in_a_bag starts joins pairs p h below)
+          (sym (not-or_self (in_p_bag p (bags_in starts joins pairs))))
       | no above ↦
-          let none = in_none_above p pairs.begun (pairs_in starts joins pairs.count) h.in_order (omega arith) in
-          rw (le-ltb p pairs.begun (omega arith)) (sym (ap (λ (u : ℕ × Bool × Bool). u.1 || u.2) none))
+          let none = in_no_bag starts joins pairs p h (omega arith) in
+          rw (le-ltb p pairs.begun (omega arith), none.1, none.0) refl
     ]

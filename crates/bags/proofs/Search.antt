@@ -1,78 +1,59 @@
--- The search inside `ask`: what is known around the place that is sought, kept at each place that is tried and at each halving, until the place itself is
--- left. Assumes nothing.
-use Prim.Native.Nat.{ℕ, zero, suc, ◌+◌, ◌-◌, ◌/◌, ◌≤◌, ◌<◌, min}
-use mathlib.Core.Path.{◌≡◌}
+-- The search inside `ask`: what is known above the places that are tried, kept from place to place, until the one that is sought is found. Assumes nothing.
+use Prim.Native.Nat.{ℕ, suc, ◌-◌, ◌≤◌, ◌<◌}
+use mathlib.Core.Path.{◌≡◌, sym, ap, ◌∙◌}
 use mathlib.Core.List.{List}
 use native.Mathlib.Omega.{arith}
 use native.Mathlib.Decide.{dec_lt}
-use lib.ListN.{get_or}
-use Rattle.bags.specs.Search.{Found, Bracketed}
+use lib.Dec.{leb}
+use lib.ListN.{length, get_or, take}
+use mathlib.Core.Bool.{true, false}
+use Rattle.std.specs.List.Sorted.{IsPartitionedBy, IsPartitionPoint}
+use Rattle.std.proofs.lemmas.Bool.{leb-true, leb-false}
+use Rattle.std.proofs.lemmas.List.{get_or-take, length-take, length-take-le}
+use Rattle.std.proofs.lemmas.List.Sorted.{IsPartitionedBy-leb, IsNonDecreasingBy-from_default}
+use Rattle.bags.specs.Search.{Found, Rising}
 
--- ---- One by one -------------------------------------------------------------------------------------------------------------------------------
+-- The place that is sought lies below `at`, and at `floor` or above it or below that.
+pub record Below (starts : List ℕ) (top p floor at : ℕ) : Type 0 where
+  pub down_to : floor ≤ at
+  pub within : at ≤ top
+  pub above : p < get_or starts at 0
 
--- The top pair starts above p, and so is not the lowest.
-pub some_below : (starts : List ℕ) (top p : ℕ) → get_or starts 0 0 ≤ p → p < get_or starts top 0 → 0 < top
-some_below starts zero p lowest above = absurd (omega arith)
-some_below starts (suc top) p lowest above = omega arith
+-- Of the pairs below `floor` the first so many start at or below p, and no others: it is the last of these.
+abbrev pub FirstSoMany : List ℕ → ℕ → ℕ → ℕ → Type 0
+FirstSoMany starts p floor so_many = IsPartitionPoint (λ y. leb y p ≡ true) (λ y. leb y p ≡ false) (take floor starts) so_many
 
--- The place that is sought is `at` or lies below it.
-pub record From (starts : List ℕ) (top p at : ℕ) : Type 0 where
-  pub within : at < top
-  pub next_above : p < get_or starts (suc at) 0
-
--- At first: it lies below the top, and is at most p, since each pair's place is at most its start;
-pub from_first : (starts : List ℕ) (top p at : ℕ) → get_or starts 0 0 ≤ p → p < get_or starts top 0 → ((i : ℕ) → i ≤ top → i ≤ get_or starts i 0)
-    → at ≡ min (top - 1) p → From starts top p at
-from_first starts top p at lowest above rise e =
-    let some : 0 < top = some_below starts top p lowest above in
-    elim (dec_lt p (top - 1)) [
-      | yes low ↦ record { within = omega arith; next_above = omega (arith, rise (suc at) (omega arith)) }
-      | no high ↦ let next : suc at ≡ top = omega arith in record { within = omega arith; next_above = rw next above }
-    ]
-
--- then one place down, where it was not at `at`.
-pub one_down : (starts : List ℕ) (top p at : ℕ) → From starts top p at → 0 < at → p < get_or starts at 0 → From starts top p (at - 1)
-one_down starts top p at h some above =
-    let next : suc (at - 1) ≡ at = omega arith in
-    record { within = omega (arith, h.within); next_above = rw next above }
-
--- Where it is at `at` it is found, and else it lies between place 0 and there.
-pub met : (starts : List ℕ) (top p at : ℕ) → From starts top p at → get_or starts at 0 ≤ p → Found starts top p at
-met starts top p at h below = record { within = omega (arith, h.within); starts_below = below; next_above = λ l. h.next_above }
-
-pub left_below : (starts : List ℕ) (top p at : ℕ) → get_or starts 0 0 ≤ p → From starts top p at → Bracketed starts top p 0 (at + 1)
-left_below starts top p at lowest h =
-    let next : at + 1 ≡ suc at = omega arith in
-    record { apart = omega arith; within = omega (arith, h.within); low_below = lowest; high_above = rw next h.next_above }
-
--- ---- Halvings ---------------------------------------------------------------------------------------------------------------------------------
-
-middle_between : (low high : ℕ) → 1 < high - low → (low < low + (high - low) / 2) × (low + (high - low) / 2 < high)
-middle_between low high h = (omega arith, omega arith)
-
-pub upper_half : (starts : List ℕ) (top p low high : ℕ) → Bracketed starts top p low high → 1 < high - low
-    → get_or starts (low + (high - low) / 2) 0 ≤ p → Bracketed starts top p (low + (high - low) / 2) high
-upper_half starts top p low high h apart below =
-    record { apart = (middle_between low high apart).1; within = h.within; low_below = below; high_above = h.high_above }
-
-pub lower_half : (starts : List ℕ) (top p low high : ℕ) → Bracketed starts top p low high → 1 < high - low
-    → p < get_or starts (low + (high - low) / 2) 0 → Bracketed starts top p low (low + (high - low) / 2)
-lower_half starts top p low high h apart above =
-    record {
-      apart = (middle_between low high apart).0;
-      within = omega (arith, h.within, (middle_between low high apart).1);
-      low_below = h.low_below;
-      high_above = above;
-    }
-
--- Two places side by side leave one.
-pub one_left : (starts : List ℕ) (top p low high : ℕ) → Bracketed starts top p low high → high - low ≤ 1 → Found starts top p low
-one_left starts top p low high h near =
-    record {
-      within = omega (arith, h.apart, h.within);
-      starts_below = h.low_below;
-      next_above = λ l. rw (next h.apart) h.high_above;
-    }
+pub partitioned : (starts : List ℕ) (top p floor : ℕ) → Rising starts top → top < length starts → floor ≤ top
+    → IsPartitionedBy (λ y. leb y p) (take floor starts)
+partitioned starts top p floor rising inside down =
+    IsPartitionedBy-leb (λ y. y) (take floor starts) p (IsNonDecreasingBy-from_default (λ y. y) (take floor starts) 0 rise)
   where
-    next : low < high → suc low ≡ high
-    next l = omega arith
+    rise : (i j : ℕ) → i ≤ j → j < length (take floor starts) → get_or (take floor starts) i 0 ≤ get_or (take floor starts) j 0
+    rise i j l m =
+        let below : j < floor = omega (arith, length-take floor starts) in
+        rw (get_or-take floor starts i 0 (omega arith), get_or-take floor starts j 0 below) (rising.rises i j l (omega arith))
+
+pub last_of_those : (starts : List ℕ) (top p floor at so_many : ℕ) → Below starts top p floor at → at ≤ floor → 0 < floor → top < length starts
+    → get_or starts 0 0 ≤ p → so_many ≤ length (take floor starts) → FirstSoMany starts p floor so_many
+    → (1 ≤ so_many) × Found starts top p (so_many - 1)
+last_of_those starts top p floor at so_many h end some inside lowest most point =
+    let size : length (take floor starts) ≡ floor = length-take-le floor starts (omega (arith, h.down_to, h.within)) in
+    let these : (i : ℕ) → i < so_many → get_or starts i 0 ≤ p =
+    λ i l. leb-true _ _ (sym (ap (λ y. leb y p) (get_or-take floor starts i 0 (omega arith))) ∙ point.0 i 0 (omega arith) l) in
+    let others : (i : ℕ) → so_many ≤ i → i < floor → p < get_or starts i 0 =
+    λ i l m. leb-false _ _ (sym (ap (λ y. leb y p) (get_or-take floor starts i 0 m)) ∙ point.1 i 0 l (omega arith)) in
+    let one : 1 ≤ so_many = elim (dec_lt 0 so_many) [
+      | yes more ↦ more
+      | no none ↦ let l : p < get_or starts 0 0 = others 0 (omega arith) some in absurd (omega arith)
+    ] in
+    let next : suc (so_many - 1) ≡ so_many = omega arith in (
+      one,
+      record {
+        within = omega (arith, h.within, h.down_to);
+        starts_below = these (so_many - 1) (omega arith);
+        next_above = λ l. rw next (elim (dec_lt so_many floor) [
+          | yes among ↦ others so_many (omega arith) among
+          | no last ↦ let same : so_many ≡ at = omega (arith, h.down_to) in rw same h.above
+        ]);
+      },
+    )

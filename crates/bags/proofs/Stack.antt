@@ -4,13 +4,14 @@
 use Prim.Native.Nat.{ℕ, zero, suc, ◌<◌, ◌≤◌, zero-le, suc-le-suc}
 use mathlib.Core.Path.{◌≡◌, refl, sym, ap, subst, ◌∙◌}
 use mathlib.Core.Logic.{◌≢◌, ⊎_elim}
-use mathlib.Core.Bool.{Bool, true, false, ◌||◌, false≢true}
+use mathlib.Core.Bool.{Bool, true, false, false≢true}
 use mathlib.Core.List.{List, [], ◌∷◌, ◌++◌, tail, head_d}
 use native.Mathlib.Nat.{le_refl, eq-or-lt_of_le}
 use native.Mathlib.Decide.{dec_lt}
 use native.Mathlib.Omega.{arith}
 use lib.Dec.{eqb}
 use borrow.Author.Tests.{eq-eqb, ne_eqb}
+use Rattle.std.proofs.lemmas.Bool.{or_parts}
 use Rattle.bags.specs.Parallel.{Act, spawn, return, sync, other, member, begun_after, opens_after, begun, opens, is_main_open, maker, MatchingReturn}
 
 -- What holds of i, and goes on from each number to the next, holds from i on.
@@ -74,11 +75,7 @@ closed_after : (act : Act) (n g : ℕ) (gs : List ℕ) → g < n → member g gs
 unfolding opens_after member
 closed_after spawn n g gs h m = rw (ne_eqb g n (λ (q : g ≡ n). omega arith)) m
 closed_after return n g [] h m = m
-closed_after return n g (x ∷ xs) h m = neither (eqb g x) m
-  where
-    neither : (b : Bool) → (b || member g xs) ≡ false → member g xs ≡ false
-    neither true e = cc
-    neither false e = e
+closed_after return n g (x ∷ xs) h m = (or_parts (eqb g x) (member g xs) m).1
 closed_after sync n g gs h m = m
 closed_after other n g gs h m = m
 

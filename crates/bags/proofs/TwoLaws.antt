@@ -74,7 +74,7 @@ lemma_2 events a e j main_open h l p q =
     nested o u = omega (arith, bodies_nest events p.s p.r q.s q.r p.matching q.matching (omega arith) u)
 
     apart : p.r ≡ q.s → ⊥
-    apart same = let z : ◌≡◌ {A = ℕ} 0 1 = cc (p.matching.returns, q.matching.spawns, same) in omega arith
+    apart same = cc (p.matching.returns, q.matching.spawns, same)
 
     by_first : p.r < q.s → Parallel events a j
     by_first o =

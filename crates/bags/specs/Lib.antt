@@ -3,6 +3,7 @@ pub mod Bags
 pub mod YesOrNo
 pub mod Theorems
 pub mod Runs
+pub mod Lent
 pub mod Ask
 pub mod Search
 pub mod Steps

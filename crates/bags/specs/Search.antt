@@ -8,9 +8,7 @@ pub record Found (starts : List ℕ) (top p at : ℕ) : Type 0 where
   pub starts_below : get_or starts at 0 ≤ p
   pub next_above : at < top → p < get_or starts (suc at) 0
 
--- Two places, at most `top`, the pair at `low` starting at or below p and the one at `high` above it: such a place lies at `low` or between them.
-pub record Bracketed (starts : List ℕ) (top p low high : ℕ) : Type 0 where
-  pub apart : low < high
-  pub within : high ≤ top
-  pub low_below : get_or starts low 0 ≤ p
-  pub high_above : p < get_or starts high 0
+-- Up to `top` the starts rise, and each is at least its place.
+pub record Rising (starts : List ℕ) (top : ℕ) : Type 0 where
+  pub rises : (i j : ℕ) → i ≤ j → j ≤ top → get_or starts i 0 ≤ get_or starts j 0
+  pub at_least : (i : ℕ) → i ≤ top → i ≤ get_or starts i 0

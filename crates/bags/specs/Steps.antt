@@ -1,9 +1,9 @@
 -- What main's beginning and each event make of the pieces.
 use Rattle.std.specs.Prelude.{ℕ, ◌+◌, ◌≤◌, ◌<◌, ◌≡◌, cond, ltb, set, drop}
+use Rattle.std.specs.Prelude.{Result, Ok, Err}
 use mathlib.Core.List.{List, [], ◌∷◌, head_d, map}
 use Rattle.bags.specs.declared.ask.Pairs.{Pairs}
-use Rattle.bags.specs.declared.Spawned.{Spawned}
-use Rattle.bags.specs.declared.Spawned.TheVariants.{Begun, Full}
+use Rattle.bags.specs.declared.Full.{Full}
 use Rattle.bags.specs.Parallel.{Act, spawn, begun_after}
 use Rattle.bags.specs.Bags.{Bags, bags_of_new, bags_after}
 use Rattle.bags.specs.Runs.{piece_size, bags_in, Room}
@@ -36,22 +36,26 @@ pub record Carries (act : Act) (starts joins : List ℕ) (pairs : Pairs) (starts
 abbrev pub most_begun : ℕ
 most_begun = 4096
 
--- What it gives: the pairs with one more, or the refusal.
-unfoldable pub spawned : Pairs → Spawned
-spawned pairs =
-    cond (ltb pairs.begun most_begun)
-    (Begun (record { count = pairs.count + 1; begun = pairs.begun + 1; start = pairs.begun; join = pairs.begun + 1 })) Full
+-- What it gives: nothing, or the refusal.
+unfoldable pub spawned : Pairs → Result (Unit {0}) Full
+spawned pairs = cond (ltb pairs.begun most_begun) (Ok tt) (Err (record {}))
 
 -- The code of each, 0 where nothing is refused.
-abbrev pub code_of : Spawned → ℕ
-code_of (Begun pairs) = 0
-code_of Full = 11
+abbrev pub code_of : Result (Unit {0}) Full → ℕ
+code_of (Ok done) = 0
+code_of (Err why) = 11
 
--- What it leaves of a piece: with a number put on top, or as it was.
+-- What it leaves of the pairs: one more, or as they were;
+unfoldable pub pairs_after : Pairs → Pairs
+pairs_after pairs =
+    cond (ltb pairs.begun most_begun) (record { count = pairs.count + 1; begun = pairs.begun + 1; start = pairs.begun; join = pairs.begun + 1 }) pairs
+
+-- and of a piece: with a number put on top, or as it was.
 unfoldable pub pushed : Pairs → ℕ → List ℕ → List ℕ
 pushed pairs number piece = cond (ltb pairs.begun most_begun) (set piece pairs.count number) piece
 
 -- So the pieces hold what a spawn makes of the bags, or are as they were.
-abbrev pub AfterSpawn : List ℕ → List ℕ → Pairs → List ℕ → List ℕ → Spawned → Type 0
-AfterSpawn starts joins pairs starts' joins' (Begun pairs') = (pairs.begun < most_begun) × Carries spawn starts joins pairs starts' joins' pairs'
-AfterSpawn starts joins pairs starts' joins' Full = (most_begun ≤ pairs.begun) × (starts' ≡ starts) × (joins' ≡ joins)
+abbrev pub AfterSpawn : List ℕ → List ℕ → Pairs → List ℕ → List ℕ → Pairs → Result (Unit {0}) Full → Type 0
+AfterSpawn starts joins pairs starts' joins' pairs' (Ok done) = (pairs.begun < most_begun) × Carries spawn starts joins pairs starts' joins' pairs'
+AfterSpawn starts joins pairs starts' joins' pairs' (Err why) =
+    (most_begun ≤ pairs.begun) × (starts' ≡ starts) × (joins' ≡ joins) × (pairs' ≡ pairs)

@@ -5,46 +5,45 @@ use mathlib.Core.Path.{◌≡◌, refl, sym, ap, ap₂, subst, ◌∙◌}
 use mathlib.Core.Logic.{◌≢◌}
 use mathlib.Core.Bool.{Bool, true, false, cond, not, ◌&&◌, ◌||◌}
 use mathlib.Core.List.{List, [], ◌∷◌, ◌++◌, append-nil}
-use mathlib.Core.Option.{Option, none, some}
 use native.Mathlib.Omega.{arith}
 use lib.Dec.{leb, ltb}
 use lib.ListN.{length, length-append}
 use borrow.Author.Tests.{le-leb, lt-leb, lt-ltb, le-ltb, eqb-true, ne_eqb}
 use Rattle.trace.specs.declared.Event.{Event}
-use Rattle.trace.specs.declared.Reading.TheVariants.{Found}
 use Rattle.trace.specs.Kinds.{is_spawn, is_locking, is_unlocking, entry, lawful_holding, is_access, is_read, location}
-use Rattle.trace.specs.Events.{reading_at}
+use Rattle.trace.specs.Events.{event_then, reading_at}
 use Rattle.trace.proofs.Laws.{found as found_at}
 use Rattle.locks.specs.declared.Held.{Held}
 use Rattle.locks.specs.Sets.{is_in, is_empty, taken, released, set_of_access, count}
 use Rattle.locks.proofs.Laws.{one_less_counted}
-use Rattle.bags.specs.declared.Spawned.{Spawned}
-use Rattle.bags.specs.declared.Spawned.TheVariants.{Begun, Full as AllBegun}
-use Rattle.bags.specs.declared.ask.Pairs.{Pairs}
+use Rattle.bags.specs.declared.Full.{Full as AllBegun}
 use Rattle.bags.specs.declared.ask.ProcedureNumber.{ProcedureNumber}
+use Rattle.bags.specs.declared.ask.Runs.{Runs}
+use Rattle.bags.specs.Lent.{bags_of}
 use Rattle.bags.specs.Parallel.{Act, spawn, return, sync, other, begun, maker}
 use Rattle.bags.specs.Bags.{bags}
-use Rattle.bags.specs.Runs.{bags_in}
 use Rattle.bags.specs.Steps.{most_begun, runner, Carries, AfterSpawn}
 use Rattle.bags.specs.Holds.{Holds as BagsHold}
 use Rattle.bags.proofs.Laws as bags
+use Rattle.std.specs.Prelude.{Option, Result, Ok, Err}
 use Rattle.kept.specs.declared.Entry.{Entry}
-use Rattle.kept.specs.declared.Slots.{Slots}
-use Rattle.kept.specs.declared.Named.{Named}
-use Rattle.kept.specs.declared.Accessed.{Accessed}
-use Rattle.kept.specs.declared.Accessed.TheVariants.{Done, InNoBag, Full}
+use Rattle.kept.specs.declared.KeptLists.{KeptLists}
+use Rattle.kept.specs.declared.Visited.{Visited}
+use Rattle.kept.specs.declared.NotKept.{NotKept}
+use Rattle.kept.specs.declared.NotKept.TheVariants.{InNoBag, Full}
+use Rattle.kept.specs.Lent.{pieces_of}
 use Rattle.kept.specs.Lists.{any, sum_below}
 use Rattle.kept.specs.Rules.{named, in_all}
 use Rattle.kept.specs.Theorem.{kept, visited}
-use Rattle.kept.specs.Pieces.{Pieces, piece_size, RestKept, lists_in}
-use Rattle.kept.specs.Access.{parallel_by, in_no_bag, nobody_or, accessed, slots_after, AfterAccess}
+use Rattle.kept.specs.Pieces.{piece_size, RestKept, lists_in}
+use Rattle.kept.specs.Access.{parallel_by, in_no_bag, number_of, accessed, AfterAccess}
 use Rattle.kept.specs.Holds.{Holds as ListsHold, RestsKept, AccessIs, NotRefused, HoldsAfter}
 use Rattle.kept.proofs.Laws as lists
 use Rattle.checker.specs.declared.State.{State}
 use Rattle.checker.specs.Events.{place, events, act_of, held_after, acts, held, most, entry_of, run, visits_at, visits}
 use Rattle.checker.specs.Rules.{Verdict, goes_on, stops, first_broken, rules, verdict}
 use Rattle.checker.specs.Report.{Race, race_with, race_at, found, laid}
-use Rattle.checker.specs.Steps.{Stands, AllRestsKept, ComesNext, GoesOn, IsRefused, state_after, race_named, written}
+use Rattle.checker.specs.Steps.{Stands, AllRestsKept, ComesNext, GoesOn, IsRefused, state_after, written}
 use Rattle.checker.proofs.Stopping.{judged_found, accepted_too}
 use Rattle.checker.proofs.AccessKinds.{kind_is_access_not, access_spawns_not, access_locks_not, access_unlocks_not, access_acts_not}
 use Rattle.checker.proofs.AccessKinds.{access_holds_the_same, lawful_kinds}
@@ -93,36 +92,30 @@ one_decides e set later =
     by_tests false false false inside true apart = refl
     by_tests false false false inside false apart = refl
 
-module _ (trace : List ℕ) (k : ℕ) (s : State) (p : Pieces) (starts joins : List ℕ) (e : Event) (next : ℕ) (before : Stands trace k s p starts joins)
-    (bytes_left : s.at < length trace) (read : reading_at trace s.at ≡ Found e next) where
+module _ (trace : List ℕ) (k : ℕ) (s : State) (l : KeptLists) (r : Runs) (e : Event) (next : ℕ) (before : Stands trace k s l r)
+    (bytes_left : s.at < length trace) (read : reading_at trace s.at ≡ event_then e next) where
   -- It is event k of the trace, and the next one stands after it.
   found_there : (verdict trace k ≡ first_broken (rules (events trace) k)) × (events trace k ≡ e) × (place trace (suc k) ≡ next)
   found_there =
       judged_found trace k next e (subst (λ (at : ℕ). at < length trace) before.at_place bytes_left)
-      (subst (λ (at : ℕ). reading_at trace at ≡ Found e next) before.at_place read)
+      (subst (λ (at : ℕ). reading_at trace at ≡ event_then e next) before.at_place read)
 
   -- What is said of it after main's return, and before.
-  pub stops_after_main : ltb 0 s.pairs.count ≡ false → verdict trace k ≡ stops 7
+  pub stops_after_main : ltb 0 r.pairs.count ≡ false → verdict trace k ≡ stops 7
   unfolding rules first_broken
   stops_after_main over = found_there.0 ∙ rw (before.bags_held.main_told, over) refl
 
-  pub verdict_by_kind : ltb 0 s.pairs.count ≡ true → verdict trace k ≡ by_kind e s.held.bits (first_broken (last_rules (events trace) k e))
+  pub verdict_by_kind : ltb 0 r.pairs.count ≡ true → verdict trace k ≡ by_kind e s.held.bits (first_broken (last_rules (events trace) k e))
   unfolding rules first_broken
   verdict_by_kind running =
       found_there.0
       ∙ rw (found_there.1, before.bags_held.main_told, sym before.held_told, running)
       (one_decides e s.held.bits (last_rules (events trace) k e))
 
--- ---- The race found ---------------------------------------------------------------------------------------------------------------------------
-
-named_as_chosen : (x : ℕ) (e : Entry) (chosen : Option Entry) → race_named x e (nobody_or chosen) ≡ race_with x e chosen
-named_as_chosen x e none = refl
-named_as_chosen x e (some k) = refl
-
 -- ---- An event that is no access ---------------------------------------------------------------------------------------------------------------
 
-module _ (trace report : List ℕ) (p : Pieces) (s : State) (starts joins : List ℕ) (e : Event) (next : ℕ)
-    (n : ComesNext trace s p starts joins e next) where
+module _ (trace report : List ℕ) (l : KeptLists) (s : State) (r : Runs) (e : Event) (next : ℕ)
+    (n : ComesNext trace s l r e next) where
   abbrev k : ℕ
   k = s.counts.events
 
@@ -130,13 +123,13 @@ module _ (trace report : List ℕ) (p : Pieces) (s : State) (starts joins : List
   t = events trace
 
   is_e : t k ≡ e
-  is_e = (found_there trace k s p starts joins e next n.stands n.bytes_left n.read).1
+  is_e = (found_there trace k s l r e next n.stands n.bytes_left n.read).1
 
   next_place : place trace (suc k) ≡ next
-  next_place = (found_there trace k s p starts joins e next n.stands n.bytes_left n.read).2
+  next_place = (found_there trace k s l r e next n.stands n.bytes_left n.read).2
 
   by_kind_lem : verdict trace k ≡ by_kind e s.held.bits (first_broken (last_rules t k e))
-  by_kind_lem = verdict_by_kind trace k s p starts joins e next n.stands n.bytes_left n.read n.main_runs
+  by_kind_lem = verdict_by_kind trace k s l r e next n.stands n.bytes_left n.read n.main_runs
 
   -- The rules of codes 8 to 10 let it pass.
   abbrev Passes : Type 0
@@ -158,22 +151,22 @@ module _ (trace report : List ℕ) (p : Pieces) (s : State) (starts joins : List
   unfolding visits_at sum_below
   same_visits no_access = rw (is_e, no_access) (omega arith)
 
-  same_lists : is_access e ≡ false → ListsHold (kept (run t) (suc k)) p s.slots
+  same_lists : is_access e ≡ false → ListsHold (kept (run t) (suc k)) (pieces_of l) l.slots
   unfolding run
-  same_lists no_access = lists.holds_other (run t) k p s.slots (ap is_access is_e ∙ no_access) n.stands.lists_held
+  same_lists no_access = lists.holds_other (run t) k (pieces_of l) l.slots (ap is_access is_e ∙ no_access) n.stands.lists_held
 
   -- The locks held before it were counted.
   counted : count s.held.bits ≤ most t k
   counted = rw n.stands.held_told (held_at_most t k)
 
   -- It is accepted, the locks held and the bags being brought forward.
-  other_goes_on : (set : Held) (holding : ℕ) (pairs' : Pairs) (starts' joins' : List ℕ) → Passes → is_access e ≡ false
+  other_goes_on : (set : Held) (holding : ℕ) (r' : Runs) → Passes → is_access e ≡ false
       → (is_spawn e && leb most_begun (begun (acts t) k)) ≡ false → set.bits ≡ held_after e s.held.bits
-      → max (most t k) holding ≡ max (most t k) (count set.bits) → BagsHold (acts t) (suc k) starts' joins' pairs'
-      → RestKept piece_size starts starts' → RestKept piece_size joins joins'
-      → GoesOn trace k report p starts joins report p starts' joins' (state_after s next set pairs' s.slots s.counts.races 0 holding)
+      → max (most t k) holding ≡ max (most t k) (count set.bits) → BagsHold (acts t) (suc k) r'.starts.now r'.joins.now r'.pairs
+      → RestKept piece_size r.starts.now r'.starts.now → RestKept piece_size r.joins.now r'.joins.now
+      → GoesOn trace k report l r report l r' (state_after s next set s.counts.races 0 holding)
   unfolding first_broken most
-  other_goes_on set holding pairs' starts' joins' passes no_access few is most-then then starts_rest joins_rest =
+  other_goes_on set holding r' passes no_access few is most-then then starts_rest joins_rest =
       let accepted : verdict trace k ≡ goes_on = by_last_rules passes ∙ rw (few, no_access) refl in
       let told : held t (suc k) ≡ set.bits = held_next set.bits (sym is) in
       record {
@@ -189,48 +182,49 @@ module _ (trace report : List ℕ) (p : Pieces) (s : State) (starts joins : List
           visits_told = omega (arith, n.stands.visits_told, same_visits no_access);
           most_told = rw (n.stands.most_told, told) most-then;
         };
-        reported = λ report₀ laid-before. laid-before ∙ ap (λ (l : List Race). laid l report₀) (sym (same_found no_access));
-        rests_kept = record { lists_rest = lists_as_they_are p; starts_rest = starts_rest; joins_rest = joins_rest };
+        reported = λ report₀ laid-before. laid-before ∙ ap (λ (w : List Race). laid w report₀) (sym (same_found no_access));
+        rests_kept = record { lists_rest = lists_as_they_are (pieces_of l); starts_rest = starts_rest; joins_rest = joins_rest };
       }
 
   -- The bags are brought forward: a spawn, a return or a sync is accepted.
-  bags_go_on : (act : Act) (starts' joins' : List ℕ) (pairs' : Pairs) → Passes → is_access e ≡ false → held_after e s.held.bits ≡ s.held.bits
-      → act_of e ≡ act → (is_spawn e && leb most_begun (begun (acts t) k)) ≡ false → Carries act starts joins s.pairs starts' joins' pairs'
-      → length starts' ≡ length starts → length joins' ≡ length joins
-      → GoesOn trace k report p starts joins report p starts' joins' (state_after s next s.held pairs' s.slots s.counts.races 0 0)
-  bags_go_on act starts' joins' pairs' passes no_access same_held acts-so few goes starts-length joins-length =
-      other_goes_on s.held 0 pairs' starts' joins' passes no_access few (sym same_held) (omega (arith, counted))
-      (bags.holds_next (acts t) k act starts joins starts' joins' s.pairs pairs' (ap act_of is_e ∙ acts-so) n.stands.bags_held goes)
+  bags_go_on : (act : Act) (r' : Runs) → Passes → is_access e ≡ false → held_after e s.held.bits ≡ s.held.bits
+      → act_of e ≡ act → (is_spawn e && leb most_begun (begun (acts t) k)) ≡ false
+      → Carries act r.starts.now r.joins.now r.pairs r'.starts.now r'.joins.now r'.pairs
+      → length r'.starts.now ≡ length r.starts.now → length r'.joins.now ≡ length r.joins.now
+      → GoesOn trace k report l r report l r' (state_after s next s.held s.counts.races 0 0)
+  bags_go_on act r' passes no_access same_held acts-so few goes starts-length joins-length =
+      other_goes_on s.held 0 r' passes no_access few (sym same_held) (omega (arith, counted))
+      (bags.holds_next (acts t) k act _ _ _ _ r.pairs r'.pairs (ap act_of is_e ∙ acts-so) n.stands.bags_held goes)
       (record { same_length = starts-length; same_rest = goes.starts_rest }) (record { same_length = joins-length; same_rest = goes.joins_rest })
 
   -- The locks held are brought forward: a lock is taken or released.
   held_goes_on : (set : Held) (holding : ℕ) → Passes → is_access e ≡ false → is_spawn e ≡ false → act_of e ≡ other
       → set.bits ≡ held_after e s.held.bits → max (most t k) holding ≡ max (most t k) (count set.bits)
-      → GoesOn trace k report p starts joins report p starts joins (state_after s next set s.pairs s.slots s.counts.races 0 holding)
+      → GoesOn trace k report l r report l r (state_after s next set s.counts.races 0 holding)
   held_goes_on set holding passes no_access spawns-not acts-not is most-then =
-      other_goes_on set holding s.pairs starts joins passes no_access (rw spawns-not refl) is most-then
-      (bags.holds_other (acts t) k starts joins s.pairs (ap act_of is_e ∙ acts-not) n.stands.bags_held) (as_it_is starts) (as_it_is joins)
+      other_goes_on set holding r passes no_access (rw spawns-not refl) is most-then
+      (bags.holds_other (acts t) k _ _ r.pairs (ap act_of is_e ∙ acts-not) n.stands.bags_held) (as_it_is r.starts.now) (as_it_is r.joins.now)
 
   -- It is refused, and nothing was done.
   refused_at_once : (c : ℕ) → by_kind e s.held.bits (first_broken (last_rules t k e)) ≡ stops c
-      → IsRefused trace k report p starts joins report p starts joins c
-  refused_at_once c says = record { refused = by_kind_lem ∙ says; report_same = refl; rests_kept = all_as_they_are p starts joins }
+      → IsRefused trace k report l r report l r c
+  refused_at_once c says = record { refused = by_kind_lem ∙ says; report_same = refl; rests_kept = all_as_they_are l r }
 
   -- A lock goes on, or is refused where it is held.
   pub lock_goes_on : (set : Held) (holding : ℕ) → e.kind ≡ 3 → is_access e ≡ false → is_in e.operand s.held.bits ≡ false
       → set.bits ≡ taken e.operand s.held.bits → holding ≡ count set.bits
-      → GoesOn trace k report p starts joins report p starts joins (state_after s next set s.pairs s.slots s.counts.races 0 holding)
+      → GoesOn trace k report l r report l r (state_after s next set s.counts.races 0 holding)
   unfolding act_of held_after
   lock_goes_on set holding kind no_access free is counts =
       held_goes_on set holding (λ later. rw (kind, free) refl) no_access (rw kind refl) (rw kind refl) (is ∙ sym (rw kind refl)) (rw counts refl)
 
-  pub lock_refused : e.kind ≡ 3 → is_in e.operand s.held.bits ≡ true → IsRefused trace k report p starts joins report p starts joins 9
+  pub lock_refused : e.kind ≡ 3 → is_in e.operand s.held.bits ≡ true → IsRefused trace k report l r report l r 9
   lock_refused kind holds = refused_at_once 9 (rw (kind, holds) refl)
 
   -- An unlock goes on, or is refused where the lock is not held.
   pub unlock_goes_on : (set : Held) → e.kind ≡ 4 → is_access e ≡ false → is_in e.operand s.held.bits ≡ true
       → set.bits ≡ released e.operand s.held.bits
-      → GoesOn trace k report p starts joins report p starts joins (state_after s next set s.pairs s.slots s.counts.races 0 0)
+      → GoesOn trace k report l r report l r (state_after s next set s.counts.races 0 0)
   unfolding act_of held_after entry
   unlock_goes_on set kind no_access holds is =
       let small : e.operand ≤ 62 = rw kind at (found_at trace s.at e next n.read).operand in
@@ -238,75 +232,79 @@ module _ (trace report : List ℕ) (p : Pieces) (s : State) (starts joins : List
       held_goes_on set 0 (λ later. rw (kind, holds) refl) no_access (rw kind refl) (rw kind refl) (is ∙ sym (rw kind refl))
       (rw is (omega (arith, counted, fewer)))
 
-  pub unlock_refused : e.kind ≡ 4 → is_in e.operand s.held.bits ≡ false → IsRefused trace k report p starts joins report p starts joins 10
+  pub unlock_refused : e.kind ≡ 4 → is_in e.operand s.held.bits ≡ false → IsRefused trace k report l r report l r 10
   unlock_refused kind free = refused_at_once 10 (rw (kind, free) refl)
 
   -- What is no access and neither of the two is refused where a lock is held.
   pub holding_refused : e.kind ≢ 3 → e.kind ≢ 4 → is_access e ≡ false → is_empty s.held.bits ≡ false
-      → IsRefused trace k report p starts joins report p starts joins 8
+      → IsRefused trace k report l r report l r 8
   holding_refused not-3 not-4 no_access holding = refused_at_once 8 (rw (ne_eqb _ _ not-3, ne_eqb _ _ not-4, no_access, holding) refl)
 
   -- A spawn goes on, or is refused where 4,096 procedures have begun.
-  pub spawn_goes_on : (r : Spawned) (then : Pairs) (starts' joins' : List ℕ) → e.kind ≡ 0 → is_access e ≡ false → is_empty s.held.bits ≡ true
-      → r ≡ Begun then → AfterSpawn starts joins s.pairs starts' joins' r → length starts' ≡ length starts → length joins' ≡ length joins
-      → GoesOn trace k report p starts joins report p starts' joins' (state_after s next s.held then s.slots s.counts.races 0 0)
+  pub spawn_goes_on : (r' : Runs) → e.kind ≡ 0 → is_access e ≡ false → is_empty s.held.bits ≡ true
+      → AfterSpawn r.starts.now r.joins.now r.pairs r'.starts.now r'.joins.now r'.pairs (Ok tt)
+      → length r'.starts.now ≡ length r.starts.now → length r'.joins.now ≡ length r.joins.now
+      → GoesOn trace k report l r report l r' (state_after s next s.held s.counts.races 0 0)
   unfolding act_of held_after
-  spawn_goes_on r then starts' joins' kind no_access empty case leaves starts-length joins-length =
-      let so = subst (AfterSpawn starts joins s.pairs starts' joins') case leaves in
-      bags_go_on spawn starts' joins' then (λ later. rw (no_access, kind, empty) refl) no_access (rw kind refl) (rw kind refl)
+  spawn_goes_on r' kind no_access empty so starts-length joins-length =
+      bags_go_on spawn r' (λ later. rw (no_access, kind, empty) refl) no_access (rw kind refl) (rw kind refl)
       (rw (kind, lt-leb most_begun (begun (acts t) k) (rw (← n.stands.bags_held.begun_held) so.0)) refl) so.1 starts-length joins-length
 
-  pub spawn_refused : (r : Spawned) (starts' joins' : List ℕ) → e.kind ≡ 0 → is_access e ≡ false → is_empty s.held.bits ≡ true → r ≡ AllBegun
-      → AfterSpawn starts joins s.pairs starts' joins' r → IsRefused trace k report p starts joins report p starts' joins' 11
+  pub spawn_refused : (r' : Runs) (why : AllBegun) → e.kind ≡ 0 → is_access e ≡ false → is_empty s.held.bits ≡ true
+      → AfterSpawn r.starts.now r.joins.now r.pairs r'.starts.now r'.joins.now r'.pairs (Err why) → IsRefused trace k report l r report l r' 11
   unfolding first_broken
-  spawn_refused r starts' joins' kind no_access empty case leaves =
-      let so = subst (AfterSpawn starts joins s.pairs starts' joins') case leaves in
-      record {
-        refused =
-            by_last_rules (λ later. rw (no_access, kind, empty) refl)
-            ∙ rw (kind, le-leb most_begun (begun (acts t) k) (rw (← n.stands.bags_held.begun_held) so.0)) refl;
-        report_same = refl;
-        rests_kept = rw (so.1, so.2) (all_as_they_are p starts joins);
-      }
+  spawn_refused r' why kind no_access empty so = record {
+    refused =
+        by_last_rules (λ later. rw (no_access, kind, empty) refl)
+        ∙ rw (kind, le-leb most_begun (begun (acts t) k) (rw (← n.stands.bags_held.begun_held) so.0)) refl;
+    report_same = refl;
+    rests_kept = record {
+      lists_rest = lists_as_they_are (pieces_of l);
+      starts_rest = rw so.1 (as_it_is r.starts.now);
+      joins_rest = rw so.2 (as_it_is r.joins.now);
+    };
+  }
 
   -- A return and a sync go on. What is no access and none of the others is a sync.
-  pub return_goes_on : (then : Pairs) → e.kind ≡ 1 → is_access e ≡ false → is_empty s.held.bits ≡ true
-      → Carries return starts joins s.pairs starts joins then
-      → GoesOn trace k report p starts joins report p starts joins (state_after s next s.held then s.slots s.counts.races 0 0)
+  pub return_goes_on : (r' : Runs) → e.kind ≡ 1 → is_access e ≡ false → is_empty s.held.bits ≡ true
+      → Carries return r.starts.now r.joins.now r.pairs r'.starts.now r'.joins.now r'.pairs
+      → length r'.starts.now ≡ length r.starts.now → length r'.joins.now ≡ length r.joins.now
+      → GoesOn trace k report l r report l r' (state_after s next s.held s.counts.races 0 0)
   unfolding act_of held_after
-  return_goes_on then kind no_access empty goes =
-      bags_go_on return starts joins then (λ later. rw (no_access, kind, empty) refl) no_access (rw kind refl) (rw kind refl) (rw kind refl) goes refl
-      refl
+  return_goes_on r' kind no_access empty goes =
+      bags_go_on return r' (λ later. rw (no_access, kind, empty) refl) no_access (rw kind refl) (rw kind refl) (rw kind refl) goes
 
-  pub sync_goes_on : (joins' : List ℕ) (then : Pairs) → e.kind ≢ 0 → e.kind ≢ 1 → e.kind ≢ 3 → e.kind ≢ 4 → is_access e ≡ false → is_empty s.held.bits ≡ true
-      → Carries sync starts joins s.pairs starts joins' then → length joins' ≡ length joins
-      → GoesOn trace k report p starts joins report p starts joins' (state_after s next s.held then s.slots s.counts.races 0 0)
+  pub sync_goes_on : (r' : Runs) → e.kind ≢ 0 → e.kind ≢ 1 → e.kind ≢ 3 → e.kind ≢ 4 → is_access e ≡ false → is_empty s.held.bits ≡ true
+      → Carries sync r.starts.now r.joins.now r.pairs r'.starts.now r'.joins.now r'.pairs
+      → length r'.starts.now ≡ length r.starts.now → length r'.joins.now ≡ length r.joins.now
+      → GoesOn trace k report l r report l r' (state_after s next s.held s.counts.races 0 0)
   unfolding act_of held_after entry
-  sync_goes_on joins' then not-0 not-1 not-3 not-4 no_access empty goes joins-length =
+  sync_goes_on r' not-0 not-1 not-3 not-4 no_access empty goes =
       let small = (found_at trace s.at e next n.read).kind in
       let kind : e.kind ≡ 2 = omega (arith, kind_is_access_not e 5 refl no_access, kind_is_access_not e 6 refl no_access) in
-      bags_go_on sync starts joins' then (λ later. rw (no_access, kind, empty) refl) no_access (rw kind refl) (rw kind refl) (rw kind refl) goes
-      refl joins-length
+      bags_go_on sync r' (λ later. rw (no_access, kind, empty) refl) no_access (rw kind refl) (rw kind refl) (rw kind refl) goes
 
   -- ---- An access --------------------------------------------------------------------------------------------------------------------------------
 
   -- The entry that an access may leave is the one that the run has.
-  pub entry_told : (procedure : ProcedureNumber) (locks : ℕ) → procedure.0 ≡ runner (bags_in starts joins s.pairs)
+  pub entry_told : (procedure : ProcedureNumber) (locks : ℕ) → procedure.0 ≡ runner (bags_of r)
       → locks ≡ set_of_access (is_read e) s.held.bits
       → entry_of t k ≡ record { event = record { 0 = k }; procedure = procedure; locks = locks }
   unfolding entry_of
   entry_told procedure locks runs set =
-      let made : procedure.0 ≡ maker (acts t) k = runs ∙ bags.runner_makes (acts t) k starts joins s.pairs n.stands.bags_held in
+      let made : procedure.0 ≡ maker (acts t) k = runs ∙ bags.runner_makes (acts t) k _ _ r.pairs n.stands.bags_held in
       let same : locks ≡ set_of_access (is_read (t k)) (held t k) = set ∙ ap₂ set_of_access (ap is_read (sym is_e)) n.stands.held_told in
       rw (sym made, sym same) refl
 
   -- What the lists made of it.
   module _ (x : ℕ) (there : x ≡ location e) (ours : Entry) (told : entry_of t k ≡ ours) (accesses : is_access e ≡ true)
-      (small : x < piece_size) (r : Accessed) (p' : Pieces)
-      (is : r ≡ accessed (bags_in starts joins s.pairs) x ours (lists_in p)
-      (slots_after (bags_in starts joins s.pairs) x ours p s.slots))
-      (leaves : AfterAccess (bags_in starts joins s.pairs) x ours p s.slots p' r) where
-    access_is : AccessIs (run t) k (bags_in starts joins s.pairs) x ours
+      (small : x < piece_size) (l' : KeptLists) where
+    abbrev Gives : Result Visited NotKept → Type 0
+    Gives given =
+        (given ≡ accessed (bags_of r) x ours (lists_in (pieces_of l)))
+        × AfterAccess (bags_of r) x ours (pieces_of l) l.slots (pieces_of l') l'.slots given
+
+    access_is : AccessIs (run t) k (bags_of r) x ours
     unfolding run
     access_is = record {
       an_access = ap is_access is_e ∙ accesses;
@@ -315,63 +313,63 @@ module _ (trace report : List ℕ) (p : Pieces) (s : State) (starts joins : List
       told_by_bags = ap parallel_by (sym n.stands.bags_held.bags_held);
     }
 
-    lists_then : HoldsAfter (run t) k (bags_in starts joins s.pairs) p' s.slots r × RestsKept p p'
-    lists_then = lists.holds_next (run t) k _ x ours p s.slots p' r small access_is n.stands.lists_held is leaves
+    lists_then : (given : Result Visited NotKept) → Gives given
+        → HoldsAfter (run t) k (bags_of r) (pieces_of l') l'.slots given × RestsKept (pieces_of l) (pieces_of l')
+    lists_then given so =
+        lists.holds_next (run t) k _ x ours (pieces_of l) l.slots (pieces_of l') l'.slots given small access_is n.stands.lists_held so.0 so.1
 
-    rests_then : AllRestsKept p starts joins p' starts joins
-    rests_then = record { lists_rest = lists_then.1; starts_rest = as_it_is starts; joins_rest = as_it_is joins }
+    rests_then : RestsKept (pieces_of l) (pieces_of l') → AllRestsKept l r l' r
+    rests_then rests = record { lists_rest = rests; starts_rest = as_it_is r.starts.now; joins_rest = as_it_is r.joins.now }
 
     -- The rules of codes 8 to 10 do not speak of it.
     access_passes : Passes
     access_passes later = rw (access_locks_not e accesses, access_unlocks_not e accesses, accesses) refl
 
     -- It is refused with code 12 or 13,
-    pub stray_refused : r ≡ InNoBag → IsRefused trace k report p starts joins report p' starts joins 12
+    pub access_refused : (why : NotKept) → Gives (Err why) → IsRefused trace k report l r report l' r (number_of why)
     unfolding first_broken
-    stray_refused case =
-        let why = subst (HoldsAfter (run t) k (bags_in starts joins s.pairs) p' s.slots) case lists_then.0 in
+    access_refused InNoBag gives =
+        let then = lists_then (Err InNoBag) gives in
         record {
-          refused = by_last_rules access_passes ∙ rw (access_spawns_not e accesses, accesses, sym n.stands.bags_held.bags_held, why.0) refl;
+          refused = by_last_rules access_passes ∙ rw (access_spawns_not e accesses, accesses, sym n.stands.bags_held.bags_held, then.0.0) refl;
           report_same = refl;
-          rests_kept = rests_then;
+          rests_kept = rests_then then.1;
         }
-
-    pub full_refused : r ≡ Full → IsRefused trace k report p starts joins report p' starts joins 13
-    unfolding first_broken
-    full_refused case =
-        let why = subst (HoldsAfter (run t) k (bags_in starts joins s.pairs) p' s.slots) case lists_then.0 in
+    access_refused Full gives =
+        let then = lists_then (Err Full) gives in
         record {
           refused =
               by_last_rules access_passes
-              ∙ rw (access_spawns_not e accesses, accesses, sym n.stands.bags_held.bags_held, why.0, lt-ltb _ _ why.1) refl;
+              ∙ rw (access_spawns_not e accesses, accesses, sym n.stands.bags_held.bags_held, then.0.0, lt-ltb _ _ then.0.1) refl;
           report_same = refl;
-          rests_kept = rests_then;
+          rests_kept = rests_then then.1;
         }
 
     -- or accepted, and then the race found is the one with the entry named,
-    race_anew : (then : Slots) (seen : ℕ) (race : Named) → NotRefused (run t) k (bags_in starts joins s.pairs) p' then seen race
-        → race_at (run t) k ≡ race_named x ours race
+    race_anew : (seen : ℕ) (race : Option Entry) → NotRefused (run t) k (bags_of r) (pieces_of l') l'.slots seen race
+        → race_at (run t) k ≡ race_with x ours race
     unfolding race_at
-    race_anew then seen race so =
-        let chosen = named ((run t).parallel k) ((run t).entry k) (visited (run t) k) in
+    race_anew seen race so =
         rw access_is.an_access
-        (ap₂ (λ (at : ℕ) (y : Entry). race_with at y chosen) access_is.its_location access_is.its_entry
-        ∙ sym (named_as_chosen x ours chosen)
-        ∙ ap (race_named x ours) (sym so.race_told))
+        (ap₂ (λ (at : ℕ) (y : Entry). race_with at y (named ((run t).parallel k) ((run t).entry k) (visited (run t) k))) access_is.its_location
+        access_is.its_entry
+        ∙ ap (race_with x ours) (sym so.race_told))
 
     -- which is noted.
-    pub access_goes_on : (then : Slots) (seen : ℕ) (race : Named) (races : ℕ) (report' : List ℕ) → r ≡ Done then seen race
-        → races ≡ s.counts.races + length (race_named x ours race)
-        → report' ≡ written s.counts.races (race_named x ours race) report
-        → GoesOn trace k report p starts joins report' p' starts joins (state_after s next s.held s.pairs then races seen 0)
+    pub access_goes_on : (given : Visited) (races : ℕ) (report' : List ℕ) → Gives (Ok given)
+        → races ≡ s.counts.races + length (race_with x ours given.race)
+        → report' ≡ written s.counts.races (race_with x ours given.race) report
+        → GoesOn trace k report l r report' l' r (state_after s next s.held races given.visits 0)
     unfolding first_broken found visits_at sum_below most
-    access_goes_on then seen race races report' case more wrote =
-        let so = subst (HoldsAfter (run t) k (bags_in starts joins s.pairs) p' s.slots) case lists_then.0 in
+    access_goes_on given races report' gives more wrote =
+        let then = lists_then (Ok given) gives in
+        let so = then.0 in
+        let race = given.race in
         let accepted : verdict trace k ≡ goes_on =
         by_last_rules access_passes
         ∙ rw (access_spawns_not e accesses, accesses, sym n.stands.bags_held.bags_held, so.all_in_bags, le-ltb _ _ so.not_too_many) refl in
-        let anew = race_anew then seen race so in
-        let in_all : found (run t) (suc k) ≡ found (run t) k ++ race_named x ours race = ap (found (run t) k ++◌) anew in
+        let anew = race_anew given.visits race so in
+        let in_all : found (run t) (suc k) ≡ found (run t) k ++ race_with x ours race = ap (found (run t) k ++◌) anew in
         let same_set : held t (suc k) ≡ s.held.bits = held_next s.held.bits (access_holds_the_same e s.held.bits accesses) in
         record {
           accepted = accepted;
@@ -379,18 +377,18 @@ module _ (trace report : List ℕ) (p : Pieces) (s : State) (starts joins : List
             accepted_before = accepted_too trace k n.stands.accepted_before accepted;
             at_place = sym next_place;
             held_told = sym same_set;
-            bags_held = bags.holds_other (acts t) k starts joins s.pairs (ap act_of is_e ∙ access_acts_not e accesses) n.stands.bags_held;
+            bags_held = bags.holds_other (acts t) k _ _ r.pairs (ap act_of is_e ∙ access_acts_not e accesses) n.stands.bags_held;
             lists_held = so.lists_held;
             events_told = omega arith;
             races_told =
-                more ∙ ap (◌+ length (race_named x ours race)) n.stands.races_told
-                ∙ sym (length-append (found (run t) k) (race_named x ours race)) ∙ ap length (sym in_all);
+                more ∙ ap (◌+ length (race_with x ours race)) n.stands.races_told
+                ∙ sym (length-append (found (run t) k) (race_with x ours race)) ∙ ap length (sym in_all);
             visits_told = rw (is_e, accesses) (ap₂ ◌+◌ n.stands.visits_told so.visits_told);
             most_told = rw (n.stands.most_told, same_set) (omega (arith, counted));
           };
           reported = λ report₀ laid-before.
-              wrote ∙ ap₂ (λ (m : ℕ) (l : List ℕ). written m (race_named x ours race) l) n.stands.races_told laid-before
-              ∙ sym (laid_then_written (found (run t) k) (race_named x ours race) report₀)
-              ∙ ap (λ (l : List Race). laid l report₀) (sym in_all);
-          rests_kept = rests_then;
+              wrote ∙ ap₂ (λ (m : ℕ) (w : List ℕ). written m (race_with x ours race) w) n.stands.races_told laid-before
+              ∙ sym (laid_then_written (found (run t) k) (race_with x ours race) report₀)
+              ∙ ap (λ (w : List Race). laid w report₀) (sym in_all);
+          rests_kept = rests_then then.1;
         }

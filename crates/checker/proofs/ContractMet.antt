@@ -9,7 +9,9 @@ use lib.ListN.{length}
 use borrow.Author.Tests.{ltb-false, lt-ltb, le-ltb}
 use Rattle.kept.specs.Theorem.{visited}
 use Rattle.kept.specs.Lists.{sum_below}
-use Rattle.kept.specs.Pieces.{Pieces, pieces, piece_size, Fits, cleared}
+use Rattle.bags.specs.declared.ask.Runs.{Runs}
+use Rattle.kept.specs.declared.KeptLists.{KeptLists}
+use Rattle.kept.specs.Pieces.{pieces, piece_size, Fits, cleared}
 use Rattle.kept.proofs.Laws.{cleared_same}
 use Rattle.checker.specs.declared.Answer.{Answer}
 use Rattle.checker.specs.Events.{events, run}
@@ -105,13 +107,13 @@ room_fits r fits =
     )
 
 -- Read, and the room cleared: what clearing makes of a piece does not depend on what its used part held.
-module _ (trace report report' : List ℕ) (p p' : Pieces) (starts joins starts' joins' : List ℕ)
-    (rests : AllRestsKept p starts joins p' starts' joins') where
+module _ (trace report report' : List ℕ) (l l' : KeptLists) (r r' : Runs) (rests : AllRestsKept l r l' r') where
   abbrev before : WorkingRoom
-  before = room p.heads p.links p.events p.procedures p.sets starts joins
+  before = room l.heads.now l.links.now l.events.now l.procedures.now l.sets.now r.starts.now r.joins.now
 
-  room_cleared : room (cleared piece_size p'.heads) (cleared piece_size p'.links) (cleared piece_size p'.events) (cleared piece_size p'.procedures)
-      (cleared piece_size p'.sets) (cleared piece_size starts') (cleared piece_size joins') ≡ cleared_room before
+  room_cleared : room (cleared piece_size l'.heads.now) (cleared piece_size l'.links.now) (cleared piece_size l'.events.now)
+      (cleared piece_size l'.procedures.now) (cleared piece_size l'.sets.now) (cleared piece_size r'.starts.now) (cleared piece_size r'.joins.now)
+      ≡ cleared_room before
   unfolding cleared_room
   room_cleared =
       let lists = rests.lists_rest in
@@ -126,14 +128,14 @@ module _ (trace report report' : List ℕ) (p p' : Pieces) (starts joins starts'
       )
       refl
 
-  pub read_and_cleared : (a : Answer) (heads links events' procedures sets starts'' joins'' : List ℕ) → any_short before ≡ false → length trace ≤ most_bytes
+  pub read_and_cleared : (a : Answer) (heads links events' procedures sets starts joins : List ℕ) → any_short before ≡ false → length trace ≤ most_bytes
       → a ≡ answer trace → report' ≡ laid (found (run (events trace)) (stop trace)) report
-      → heads ≡ cleared piece_size p'.heads → links ≡ cleared piece_size p'.links → events' ≡ cleared piece_size p'.events
-      → procedures ≡ cleared piece_size p'.procedures → sets ≡ cleared piece_size p'.sets → starts'' ≡ cleared piece_size starts'
-      → joins'' ≡ cleared piece_size joins'
-      → Contract (lent trace report before) (left a report' (room heads links events' procedures sets starts'' joins''))
+      → heads ≡ cleared piece_size l'.heads.now → links ≡ cleared piece_size l'.links.now → events' ≡ cleared piece_size l'.events.now
+      → procedures ≡ cleared piece_size l'.procedures.now → sets ≡ cleared piece_size l'.sets.now → starts ≡ cleared piece_size r'.starts.now
+      → joins ≡ cleared piece_size r'.joins.now
+      → Contract (lent trace report before) (left a report' (room heads links events' procedures sets starts joins))
   unfolding unread first_broken outcome_after
-  read_and_cleared a heads links events' procedures sets starts'' joins'' fits short is laid_so h l e pr s st j =
-      meets (lent trace report before) goes_on (left a report' (room heads links events' procedures sets starts'' joins''))
+  read_and_cleared a heads links events' procedures sets starts joins fits short is laid_so h k e pr s st j =
+      meets (lent trace report before) goes_on (left a report' (room heads links events' procedures sets starts joins))
       (rw (fits, le-ltb _ _ short) refl)
-      (rw (is, laid_so, h, l, e, pr, s, st, j) (ap (left (answer trace) _) room_cleared))
+      (rw (is, laid_so, h, k, e, pr, s, st, j) (ap (left (answer trace) _) room_cleared))

@@ -6,7 +6,7 @@ use mathlib.Core.Path.{◌≡◌, refl, sym, ap, ◌∙◌}
 use mathlib.Core.Logic.{inl, inr, ⊎_elim}
 use mathlib.Core.Bool.{Bool, true, true≢false}
 use mathlib.Core.List.{List, [], ◌∷◌, ◌++◌}
-use mathlib.Core.Option.{Option, none, some}
+use Rattle.std.specs.Prelude.{Option, None, Some}
 use native.Mathlib.Decide.{dec_lt}
 use native.Mathlib.Nat.{not-suc-le-zero, le_of_eq}
 use native.Mathlib.Omega.{arith}
@@ -21,7 +21,7 @@ use Rattle.checker.specs.Demands.{Rising}
 -- ---- the entry that is named
 
 -- Where a test says yes to some, there is a first to which it does.
-first_of_any : {A : Type 0} (test : A → Bool) (list : List A) → any test list ≡ true → (a : A) × (first test list ≡ some a)
+first_of_any : {A : Type 0} (test : A → Bool) (list : List A) → any test list ≡ true → (a : A) × (first test list ≡ Some a)
 unfolding any first
 first_of_any test [] q = absurd (true≢false (sym q))
 first_of_any test (b ∷ list) q =
@@ -29,11 +29,11 @@ first_of_any test (b ∷ list) q =
 
 -- Where an access is reported an entry is named, and what is named is in the list.
 pub reported_names : (parallel : Entry → Bool) (e : Entry) (list : List Entry) → reported parallel e list ≡ true
-    → (l : Entry) × (named parallel e list ≡ some l)
+    → (l : Entry) × (named parallel e list ≡ Some l)
 unfolding reported named
 reported_names parallel e list q = first_of_any (races parallel e) list q
 
-pub named_is_in : (parallel : Entry → Bool) (e : Entry) (list : List Entry) (l : Entry) → named parallel e list ≡ some l → In l list
+pub named_is_in : (parallel : Entry → Bool) (e : Entry) (list : List Entry) (l : Entry) → named parallel e list ≡ Some l → In l list
 unfolding named
 named_is_in parallel e list l q = (first_has (races parallel e) list l q).0
 
@@ -43,7 +43,7 @@ module _ (run : Run) where
   -- At access k the entry l is named.
   pub record Names (k : ℕ) (l : Entry) : Type 0 where
     pub an_access : run.accesses k ≡ true
-    pub named_there : named (run.parallel k) (run.entry k) (visited run k) ≡ some l
+    pub named_there : named (run.parallel k) (run.entry k) (visited run k) ≡ Some l
 
   -- The race that this gives.
   abbrev pub race_naming : ℕ → Entry → Race
@@ -58,9 +58,9 @@ module _ (run : Run) where
     where
       by_name : run.accesses k ≡ true → (name : Option Entry) → named (run.parallel k) (run.entry k) (visited run k) ≡ name
           → In r (race_with (run.location k) (run.entry k) name) → (l : Entry) × Names k l × (r ≡ race_naming k l)
-      by_name a none q f = absurd f
-      by_name a (some l) q (inl same) = (l, record { an_access = a; named_there = q }, same)
-      by_name a (some l) q (inr f) = absurd f
+      by_name a None q f = absurd f
+      by_name a (Some l) q (inl same) = (l, record { an_access = a; named_there = q }, same)
+      by_name a (Some l) q (inr f) = absurd f
 
   at_race : (k : ℕ) (l : Entry) → Names k l → In (race_naming k l) (race_at run k)
   unfolding race_at In
@@ -108,8 +108,8 @@ module _ (run : Run) (numbered : (k : ℕ) → (run.entry k).event.0 ≡ k) wher
   rising_at k = either_way (run.accesses k) (λ a. rw a (by_name (named (run.parallel k) (run.entry k) (visited run k)))) (λ a. rw a tt)
     where
       by_name : (name : Option Entry) → Rising k (race_with (run.location k) (run.entry k) name)
-      by_name none = tt
-      by_name (some l) = (le_of_eq (sym (numbered k)), tt)
+      by_name None = tt
+      by_name (Some l) = (le_of_eq (sym (numbered k)), tt)
 
   pub found_rises : (n : ℕ) → Rising 0 (found run n)
   unfolding found Rising

@@ -12,9 +12,10 @@ use borrow.Author.Tests.{ltb-true}
 use Rattle.trace.specs.declared.Event.{Event}
 use Rattle.trace.specs.declared.Refusal.{Refusal}
 use Rattle.trace.specs.declared.Refusal.TheVariants.{BytesEnd, FormLong, Reserved, OperandLarge}
-use Rattle.trace.specs.declared.Reading.{Reading}
-use Rattle.trace.specs.declared.Reading.TheVariants.{Found, Refused}
-use Rattle.trace.specs.Events.{code_of, reading_at}
+use Rattle.std.specs.Prelude.{Result, Ok, Err}
+use Rattle.trace.specs.declared.Found.{Found}
+use Rattle.trace.specs.declared.Refused.{Refused}
+use Rattle.trace.specs.Events.{code_of, event_then, reading_at}
 use Rattle.checker.specs.declared.Answer.{Answer}
 use Rattle.checker.specs.Events.{place, events}
 use Rattle.checker.specs.Rules.{Verdict, goes_on, stops, first_broken, rules, verdict, AcceptedBefore}
@@ -60,11 +61,11 @@ at_the_end trace k e = elim (dec_lt (place trace k) (length trace)) [
   | no end ↦ omega arith
 ]
   where
-    judge : place trace k < length trace → (r : Reading) → reading_at trace (place trace k) ≡ r → ⊥
-    judge left (Refused why at) is =
-        let same : code_of why ≡ 0 = let s : stops (code_of why) ≡ stops 0 = sym (judged_refused trace k at why left is) ∙ e in cc in
-        omega (arith, refusal_coded why)
-    judge left (Found event next) is = omega (arith, rules_coded (events trace) k 0 (sym (judged_found trace k next event left is).0 ∙ e))
+    judge : place trace k < length trace → (r : Result Found Refused) → reading_at trace (place trace k) ≡ r → ⊥
+    judge left (Err r) is =
+        let same : code_of r.why ≡ 0 = let s : stops (code_of r.why) ≡ stops 0 = sym (judged_refused trace k r.at r.why left is) ∙ e in cc in
+        omega (arith, refusal_coded r.why)
+    judge left (Ok f) is = omega (arith, rules_coded (events trace) k 0 (sym (judged_found trace k f.next f.event left is).0 ∙ e))
 
 -- ---- the accepted part
 
@@ -80,7 +81,7 @@ module _ (l : Lent) (r : Left) (contract : Contract l r) where
       go (stops c) e = λ k h. let none = ap (λ (a : Answer). a.events) (contract.demand1.untouched c e).0 in absurd (omega arith)
 
   pub accepted_read : (k : ℕ) → k < r.answer.events
-      → reading_at l.trace (place l.trace k) ≡ Found (events l.trace k) (place l.trace (suc k))
+      → reading_at l.trace (place l.trace k) ≡ event_then (events l.trace k) (place l.trace (suc k))
   accepted_read k h = (accepted_means l.trace k (accepted_before k h)).read
 
   pub accepted_whole : r.answer.code ≡ 0 → r.answer.offset ≡ length l.trace

@@ -9,7 +9,6 @@ pub mod DemandsTwoAndThree
 pub mod Writing
 pub mod Bringing
 pub mod Stepping
-pub mod Numbers
 pub mod Loop
 pub mod ContractMet
 pub mod Laws

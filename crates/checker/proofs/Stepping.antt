@@ -4,22 +4,23 @@ use Prim.Native.Nat.{ℕ, zero, suc, ◌*◌, ◌≤◌, ◌<◌, zero-le}
 use mathlib.Core.Path.{◌≡◌, refl, sym, ap, subst, ◌∙◌}
 use mathlib.Core.Bool.{Bool, true, false, cond}
 use mathlib.Core.List.{List, []}
-use mathlib.Core.Option.{Option, none, some}
+use Rattle.std.specs.Prelude.{Option, None, Some}
 use native.Mathlib.Omega.{arith}
 use lib.Dec.{ltb}
 use lib.ListN.{length, length-append}
 use borrow.Author.Tests.{ltb-true}
 use Rattle.trace.specs.declared.Event.{Event}
 use Rattle.trace.specs.declared.Refusal.{Refusal}
-use Rattle.trace.specs.declared.Reading.TheVariants.{Found, Refused}
 use Rattle.trace.specs.Kinds.{is_access, location}
-use Rattle.trace.specs.Events.{code_of, reading_at}
+use Rattle.trace.specs.Events.{code_of, event_then, refused_at, reading_at}
 use Rattle.trace.proofs.Laws.{found as found_at, location_small}
 use Rattle.kept.specs.declared.Entry.{Entry}
 use Rattle.kept.specs.Lists.{sum_below}
 use Rattle.kept.specs.Rules.{named}
 use Rattle.kept.specs.Theorem.{Run, visited}
-use Rattle.kept.specs.Pieces.{Pieces, piece_size}
+use Rattle.bags.specs.declared.ask.Runs.{Runs}
+use Rattle.kept.specs.declared.KeptLists.{KeptLists}
+use Rattle.kept.specs.Pieces.{piece_size}
 use Rattle.kept.proofs.Laws.{kept_at_most}
 use Rattle.checker.specs.declared.State.{State}
 use Rattle.checker.specs.Events.{events, run, visits_at, visits}
@@ -39,8 +40,8 @@ unfolding race_at
 once_at_most run k = by_access (run.accesses k)
   where
     by_name : (x : ℕ) (e : Entry) (chosen : Option Entry) → length (race_with x e chosen) ≤ 1
-    by_name x e none = omega arith
-    by_name x e (some l) = omega arith
+    by_name x e None = omega arith
+    by_name x e (Some l) = omega arith
 
     by_access : (b : Bool) → length (cond b (race_with (run.location k) (run.entry k) (named (run.parallel k) (run.entry k) (visited run k))) []) ≤ 1
     by_access true = by_name (run.location k) (run.entry k) (named (run.parallel k) (run.entry k) (visited run k))
@@ -67,8 +68,8 @@ visits_in_all t (suc n) small = omega (arith, visits_in_all t n (omega arith), v
 
 -- ---- What the layers below ask for ------------------------------------------------------------------------------------------------------------
 
-module _ (trace : List ℕ) (p : Pieces) (s : State) (starts joins : List ℕ) (e : Event) (next : ℕ) (n : ComesNext trace s p starts joins e next) where
-  pub is_safe : length trace ≤ most_bytes → Safe s p starts joins
+module _ (trace : List ℕ) (l : KeptLists) (s : State) (r : Runs) (e : Event) (next : ℕ) (n : ComesNext trace s l r e next) where
+  pub is_safe : length trace ≤ most_bytes → Safe s l r
   is_safe short =
       let before = n.stands in
       let k = s.counts.events in
@@ -90,25 +91,25 @@ module _ (trace : List ℕ) (p : Pieces) (s : State) (starts joins : List ℕ) (
 
 -- ---- Refused before it is brought in ----------------------------------------------------------------------------------------------------------
 
-module _ (trace report : List ℕ) (k : ℕ) (p : Pieces) (s : State) (starts joins : List ℕ)
-    (before : Stands trace k s p starts joins) (left : s.at < length trace) where
+module _ (trace report : List ℕ) (k : ℕ) (l : KeptLists) (s : State) (r : Runs) (before : Stands trace k s l r)
+    (left : s.at < length trace) where
   -- No event was read,
-  pub reading_refused : (why : Refusal) (at c : ℕ) → reading_at trace s.at ≡ Refused why at → c ≡ code_of why
-      → IsRefused trace k report p starts joins report p starts joins c
+  pub reading_refused : (why : Refusal) (at c : ℕ) → reading_at trace s.at ≡ refused_at why at → c ≡ code_of why
+      → IsRefused trace k report l r report l r c
   reading_refused why at c read is = record {
     refused =
         judged_refused trace k at why (subst (λ (place : ℕ). place < length trace) before.at_place left)
-        (subst (λ (place : ℕ). reading_at trace place ≡ Refused why at) before.at_place read)
+        (subst (λ (place : ℕ). reading_at trace place ≡ refused_at why at) before.at_place read)
         ∙ ap stops (sym is);
     report_same = refl;
-    rests_kept = all_as_they_are p starts joins;
+    rests_kept = all_as_they_are l r;
   }
 
   -- or main has returned.
-  pub refused_after_main : (e : Event) (next : ℕ) → reading_at trace s.at ≡ Found e next → ltb 0 s.pairs.count ≡ false
-      → IsRefused trace k report p starts joins report p starts joins 7
+  pub refused_after_main : (e : Event) (next : ℕ) → reading_at trace s.at ≡ event_then e next → ltb 0 r.pairs.count ≡ false
+      → IsRefused trace k report l r report l r 7
   refused_after_main e next read over = record {
-    refused = stops_after_main trace k s p starts joins e next before left read over;
+    refused = stops_after_main trace k s l r e next before left read over;
     report_same = refl;
-    rests_kept = all_as_they_are p starts joins;
+    rests_kept = all_as_they_are l r;
   }

@@ -12,9 +12,10 @@ use lib.ListN.{length}
 use borrow.Author.Tests.{le-leb, lt-leb, not-false}
 use Rattle.trace.specs.declared.Event.{Event}
 use Rattle.trace.specs.declared.Refusal.{Refusal}
-use Rattle.trace.specs.declared.Reading.{Reading}
-use Rattle.trace.specs.declared.Reading.TheVariants.{Found, Refused}
-use Rattle.trace.specs.Events.{code_of, reading_at}
+use Rattle.std.specs.Prelude.{Result, Ok, Err}
+use Rattle.trace.specs.declared.Found.{Found}
+use Rattle.trace.specs.declared.Refused.{Refused}
+use Rattle.trace.specs.Events.{code_of, event_then, refused_at, reading_at}
 use Rattle.trace.proofs.Laws.{found}
 use Rattle.bags.specs.Parallel.{is_main_open}
 use Rattle.checker.specs.Events.{event_in, place_after, place, events, acts}
@@ -36,14 +37,14 @@ unfolding verdict
 judged_read trace k left = rw (lt-leb (length trace) (place trace k) left) refl
 
 -- be it an event
-pub judged_found : (trace : List ℕ) (k next : ℕ) (e : Event) → place trace k < length trace → reading_at trace (place trace k) ≡ Found e next
+pub judged_found : (trace : List ℕ) (k next : ℕ) (e : Event) → place trace k < length trace → reading_at trace (place trace k) ≡ event_then e next
     → (verdict trace k ≡ first_broken (rules (events trace) k)) × (events trace k ≡ e) × (place trace (suc k) ≡ next)
 unfolding by_reading events place
 judged_found trace k next e left read = (judged_read trace k left ∙ ap (by_reading (events trace) k) read, ap event_in read, ap place_after read)
 
 -- or none.
 pub judged_refused : (trace : List ℕ) (k at : ℕ) (why : Refusal) → place trace k < length trace
-    → reading_at trace (place trace k) ≡ Refused why at → verdict trace k ≡ stops (code_of why)
+    → reading_at trace (place trace k) ≡ refused_at why at → verdict trace k ≡ stops (code_of why)
 unfolding by_reading
 judged_refused trace k at why left read = judged_read trace k left ∙ ap (by_reading (events trace) k) read
 
@@ -70,7 +71,7 @@ main_open_then t k e = not-false (is_main_open (acts t) k) (first_kept (not (is_
 -- A byte is left, an event was found there, no rule is broken, and main has not returned.
 pub record Accepted (trace : List ℕ) (k : ℕ) : Type 0 where
   pub bytes_left : place trace k < length trace
-  pub read : reading_at trace (place trace k) ≡ Found (events trace k) (place trace (suc k))
+  pub read : reading_at trace (place trace k) ≡ event_then (events trace k) (place trace (suc k))
   pub no_rule_broken : first_broken (rules (events trace) k) ≡ goes_on
   pub main_open : is_main_open (acts (events trace)) k ≡ true
 
@@ -80,10 +81,10 @@ accepted_means trace k e = elim (dec_lt (place trace k) (length trace)) [
   | no end ↦ absurd (ended_is_no_go (events trace) k (sym (judged_ended trace k (omega arith)) ∙ e))
 ]
   where
-    judge : place trace k < length trace → (r : Reading) → reading_at trace (place trace k) ≡ r → Accepted trace k
-    judge left (Refused why at) is = absurd (stop_is_no_go (code_of why) (sym (judged_refused trace k at why left is) ∙ e))
-    judge left (Found event next) is =
-        let said = judged_found trace k next event left is in
+    judge : place trace k < length trace → (r : Result Found Refused) → reading_at trace (place trace k) ≡ r → Accepted trace k
+    judge left (Err r) is = absurd (stop_is_no_go (code_of r.why) (sym (judged_refused trace k r.at r.why left is) ∙ e))
+    judge left (Ok f) is =
+        let said = judged_found trace k f.next f.event left is in
         let none-broken : first_broken (rules (events trace) k) ≡ goes_on = sym said.0 ∙ e in
         record {
           bytes_left = left;

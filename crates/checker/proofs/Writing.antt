@@ -8,10 +8,9 @@ use native.Mathlib.Decide.{dec_lt}
 use lib.ListN.{length, set, drop}
 use borrow.Author.Tests.{le-leb, lt-leb}
 use Rattle.kept.specs.declared.Entry.{Entry}
-use Rattle.kept.specs.declared.Named.{Named}
-use Rattle.kept.specs.declared.Named.TheVariants.{Nobody, With}
-use Rattle.checker.specs.Report.{Race, numbers, laid}
-use Rattle.checker.specs.Steps.{race_named, written_at, written}
+use Rattle.std.specs.Prelude.{Option, None, Some}
+use Rattle.checker.specs.Report.{Race, numbers, race_with, laid}
+use Rattle.checker.specs.Steps.{written_at, written}
 
 -- ---- One entry --------------------------------------------------------------------------------------------------------------------------------
 
@@ -26,14 +25,14 @@ unfolding written_at
 no_entry_fits n location earlier later report h = rw (lt-leb (n * 3 + 3) (length report) h) refl
 
 -- What an access is reported with, by who is named.
-pub nobody_noted : (races x : ℕ) (e : Entry) (race : Named) (report : List ℕ) → race ≡ Nobody
-    → (races ≡ races + length (race_named x e race)) × (report ≡ written races (race_named x e race) report)
+pub nobody_noted : (races x : ℕ) (e : Entry) (race : Option Entry) (report : List ℕ) → race ≡ None
+    → (races ≡ races + length (race_with x e race)) × (report ≡ written races (race_with x e race) report)
 unfolding written
 nobody_noted races x e race report is = rw is (omega arith, refl)
 
-pub race_noted : (races x : ℕ) (e k : Entry) (race : Named) (report : List ℕ) → race ≡ With k
-    → (races + 1 ≡ races + length (race_named x e race))
-    × (written_at races x k.event.0 e.event.0 report ≡ written races (race_named x e race) report)
+pub race_noted : (races x : ℕ) (e k : Entry) (race : Option Entry) (report : List ℕ) → race ≡ Some k
+    → (races + 1 ≡ races + length (race_with x e race))
+    × (written_at races x k.event.0 e.event.0 report ≡ written races (race_with x e race) report)
 unfolding written
 race_noted races x e k race report is = rw is (refl, refl)
 

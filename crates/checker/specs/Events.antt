@@ -1,8 +1,8 @@
 -- The events of a trace by their numbers, and what stands before each: the locks held, the accesses, the lists kept.
-use Rattle.std.specs.Prelude.{ℕ, zero, suc, max, cond, List, length}
+use Rattle.std.specs.Prelude.{ℕ, zero, suc, max, cond, List, length, Result, Ok, Err}
 use Rattle.trace.specs.declared.Event.{Event}
-use Rattle.trace.specs.declared.Reading.{Reading}
-use Rattle.trace.specs.declared.Reading.TheVariants.{Found, Refused}
+use Rattle.trace.specs.declared.Found.{Found}
+use Rattle.trace.specs.declared.Refused.{Refused}
 use Rattle.trace.specs.Kinds.{is_spawn, is_return, is_sync, is_locking, is_unlocking, reserved, is_access, is_read, location}
 use Rattle.trace.specs.Events.{reading_at}
 use Rattle.locks.specs.Sets.{none, taken, released, set_of_access, count}
@@ -14,13 +14,13 @@ use Rattle.kept.specs.Theorem.{Run, visited}
 use Rattle.kept.specs.Access.{parallel_by}
 
 -- What was read, as an event and as the place after it. Where no event stands there is the reserved kind, and the place stays.
-abbrev pub event_in : Reading → Event
-event_in (Found e next) = e
-event_in (Refused why at) = record { kind = reserved; operand = 0 }
+abbrev pub event_in : Result Found Refused → Event
+event_in (Ok f) = f.event
+event_in (Err r) = record { kind = reserved; operand = 0 }
 
-abbrev pub place_after : Reading → ℕ
-place_after (Found e next) = next
-place_after (Refused why at) = at
+abbrev pub place_after : Result Found Refused → ℕ
+place_after (Ok f) = f.next
+place_after (Err r) = r.at
 
 -- Events are numbered from 0 and stand one after the other: the place of event k in a trace, and the event.
 unfoldable pub place : List ℕ → ℕ → ℕ

@@ -1,6 +1,5 @@
 -- The report: which races are found, and how they are laid out in lent numbers.
-use Rattle.std.specs.Prelude.{ℕ, zero, suc, cond, List, [], ◌∷◌, ◌++◌, leb, length, drop}
-use Rattle.std.proofs.Math.Option.{Option, none, some}
+use Rattle.std.specs.Prelude.{ℕ, zero, suc, cond, List, [], ◌∷◌, ◌++◌, leb, length, drop, Option, None, Some}
 use Rattle.kept.specs.declared.Entry.{Entry}
 use Rattle.kept.specs.Rules.{named}
 use Rattle.kept.specs.Theorem.{Run, visited}
@@ -13,8 +12,8 @@ pub record Race : Type 0 where
 
 -- At event k: the race with the kept entry that is named, if one is.
 abbrev pub race_with : ℕ → Entry → Option Entry → List Race
-race_with x e none = []
-race_with x e (some k) = record { location = x; earlier = k; later = e } ∷ []
+race_with x e None = []
+race_with x e (Some k) = record { location = x; earlier = k; later = e } ∷ []
 
 module _ (run : Run) where
   unfoldable pub race_at : ℕ → List Race

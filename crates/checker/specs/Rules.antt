@@ -1,8 +1,8 @@
 -- The rules: which code an event of a trace is refused with, and where the call stops.
-use Rattle.std.specs.Prelude.{ℕ, zero, suc, ◌<◌, ◌≡◌, Bool, true, false, cond, not, ◌&&◌, List, [], ◌∷◌, leb, ltb, length}
+use Rattle.std.specs.Prelude.{ℕ, zero, suc, ◌<◌, ◌≡◌, Bool, true, false, cond, not, ◌&&◌, List, [], ◌∷◌, leb, ltb, length, Result, Ok, Err}
 use Rattle.trace.specs.declared.Event.{Event}
-use Rattle.trace.specs.declared.Reading.{Reading}
-use Rattle.trace.specs.declared.Reading.TheVariants.{Found, Refused}
+use Rattle.trace.specs.declared.Found.{Found}
+use Rattle.trace.specs.declared.Refused.{Refused}
 use Rattle.trace.specs.Kinds.{is_spawn, is_locking, is_unlocking, lawful_holding, is_access}
 use Rattle.trace.specs.Events.{code_of, reading_at}
 use Rattle.locks.specs.Sets.{is_in, is_empty}
@@ -37,9 +37,9 @@ rules t k =
     (is_access (t k) && ltb piece_size (in_all piece_size (kept (run t) (suc k))), 13) ∷ []  -- after the rules above more than 4,096 entries would be kept in all
 
 -- By what was read at the place of event k: codes 3 to 6, or an event for the rules above.
-unfoldable pub by_reading : (ℕ → Event) → ℕ → Reading → Verdict
-by_reading t k (Refused why at) = stops (code_of why)
-by_reading t k (Found e next) = first_broken (rules t k)
+unfoldable pub by_reading : (ℕ → Event) → ℕ → Result Found Refused → Verdict
+by_reading t k (Err r) = stops (code_of r.why)
+by_reading t k (Ok f) = first_broken (rules t k)
 
 -- Code 0: every byte accepted and main has returned. Code 14: the bytes end between events and main has not returned.
 unfoldable pub ended : (ℕ → Event) → ℕ → Verdict

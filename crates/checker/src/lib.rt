@@ -4,23 +4,26 @@
 // `check` is the call. It tests what was lent, and then goes through the trace with `step`, which brings one event in.
 #![tactic(auto)]
 
-ghost use Rattle.std.specs.Prelude.{◌≡◌, true, false, cond, List, ℕ, ◌+◌, ◌≤◌, ◌<◌, max, length};
+ghost use Rattle.std.specs.Prelude.{◌≡◌, true, false, List, ℕ, ◌+◌, ◌≤◌, ◌<◌, length};
 ghost use Rattle.trace.specs.Kinds.{is_access, location};
-ghost use Rattle.bags.specs.Runs.{Room as BagsRoom};
-ghost use Rattle.kept.specs.Pieces.{Pieces, piece_size, pieces, Fits};
+ghost use Rattle.bags.specs.Lent.{InRoom, SameLoans as SameRuns};
+ghost use Rattle.kept.specs.declared.KeptLists.{KeptLists};
+ghost use Rattle.kept.specs.Pieces.{piece_size, Fits};
+ghost use Rattle.kept.specs.Lent.{pieces_of, SameLoans as SameLists};
+ghost use Rattle.checker.specs.declared.End.TheVariants.{Unread, ProceduresMany, NotKept as EntryNotKept};
 ghost use Rattle.checker.specs.Events.{events as events_of, run};
 ghost use Rattle.checker.specs.Rules.{stop};
-ghost use Rattle.checker.specs.Report.{found, laid};
+ghost use Rattle.checker.specs.Report.{race_with, found, laid};
 ghost use Rattle.checker.specs.Call.{room, lent, left, most_bytes, code_alone, answer};
 ghost use Rattle.checker.specs.Contract.{Contract};
-ghost use Rattle.checker.specs.Steps.{Stands, AllRestsKept, ComesNext, Small, Safe, AfterStep};
-ghost use Rattle.checker.specs.Steps.{counts_after, state_after, race_named, written_at, written, answer_with};
+ghost use Rattle.checker.specs.Steps.{code_of, Stands, AllRestsKept, ComesNext, Small, Safe, AfterStep};
+ghost use Rattle.checker.specs.Steps.{counts_after, state_after, written_at, written, answer_with};
 
-use bags::ask::Pairs;
-use bags::{Spawned, begin, main_is_open, returns, running, spawn, sync};
-use kept::{Accessed, Entry, Named, Slots, access, clear, clear_numbers, empty_lists};
+use bags::Full;
+use bags::ask::{Pairs, Runs};
+use kept::{Entry, KeptLists, NotKept, Slots, Visited, clear_piece};
 use locks::Held;
-use trace::{Event, EventNumber, LOCK, RETURN, Reading, SPAWN, UNLOCK, read_event};
+use trace::{Event, EventNumber, Found, Kind, Refusal, Refused, read_event};
 
 // The size of each piece of working room, in numbers.
 pub const PIECE: usize = 4096;
@@ -31,10 +34,10 @@ pub const MOST_BYTES: usize = 16777216;
 // The numbers of an entry of the report: location, earlier event, later event.
 pub const NUMBERS: usize = 3;
 
-// What the call returns: the code, the events accepted, the first byte not accepted (or the length), the accesses reported, the
-// visits in all, and the most locks held at one moment.
+// What the call returns, as C gets it: the code, the events accepted, the first byte not accepted (or the length), the accesses
+// reported, the visits in all, and the most locks held at one moment.
 #[repr(C)]
-#[derive(Clone, Copy)]
+#[derive(Clone, Copy, Debug, PartialEq, Eq)]
 pub struct Answer {
     pub code: u32,
     pub events: u32,
@@ -44,7 +47,8 @@ pub struct Answer {
     pub most: u32,
 }
 
-// The running counts: events accepted, accesses reported, visits, and the most locks held at one moment.
+// The running counts: events accepted, accesses reported, visits, and the most locks held at one moment. They are `Small` as long as
+// an event is left, and not after the last one.
 #[derive(Clone, Copy)]
 struct Counts {
     events: u32,
@@ -53,46 +57,83 @@ struct Counts {
     most: u32,
 }
 
-// What is brought forward from event to event beside the lent pieces: the place of the next event, the locks held, where the bags and
-// the lists stand in their pieces, and the counts.
+// What is brought forward from event to event beside the lists and the runs: the place of the next event, the locks held, and the
+// counts.
 #[derive(Clone, Copy)]
 struct State {
     at: usize,
     held: Held,
-    pairs: Pairs,
-    slots: Slots,
     counts: Counts,
 }
 
-// What an event gives: the state after it, or the code that it is refused with.
+// How a call ends: the trace is accepted, or why it is not.
 #[derive(Clone, Copy)]
-enum Stepped {
-    Next(State),
-    Stop(u32),
+enum End {
+    Accepted,
+    RoomShort,
+    TraceLong,
+    Unread(Refusal),
+    AfterMain,
+    Holding,
+    HeldAlready,
+    NotHeld,
+    ProceduresMany,
+    NotKept(NotKept),
+    Unfinished,
 }
 
-// The codes by their numbers; 3 to 6 are the reader's.
-const ACCEPTED: u32 = 0;
+impl End {
+    // The code that stands for it.
+    fn code(self) -> u32
+        ensures { result ≡ code_of self }
+    {
+        match self {
+            Self::Accepted => 0,
+            Self::RoomShort => 1,
+            Self::TraceLong => 2,
+            Self::Unread(why) => why.code(),
+            Self::AfterMain => 7,
+            Self::Holding => 8,
+            Self::HeldAlready => 9,
+            Self::NotHeld => 10,
+            Self::ProceduresMany => 11,
+            Self::NotKept(why) => why.code(),
+            Self::Unfinished => 14,
+        }
+    }
+}
 
-const ROOM_SHORT: u32 = 1;
+impl From<Refused> for End {
+    ghost from_gives = { λ refused end. end ≡ Unread refused.why };
 
-const TRACE_LONG: u32 = 2;
+    fn from(refused: Refused) -> End {
+        End::Unread(refused.why)
+    }
+}
 
-const AFTER_MAIN: u32 = 7;
+impl From<Refusal> for End {
+    ghost from_gives = { λ why end. end ≡ Unread why };
 
-const HOLDING: u32 = 8;
+    fn from(why: Refusal) -> End {
+        End::Unread(why)
+    }
+}
 
-const HELD_ALREADY: u32 = 9;
+impl From<Full> for End {
+    ghost from_gives = { λ _ end. end ≡ ProceduresMany };
 
-const NOT_HELD: u32 = 10;
+    fn from(_full: Full) -> End {
+        End::ProceduresMany
+    }
+}
 
-const PROCEDURES_MANY: u32 = 11;
+impl From<NotKept> for End {
+    ghost from_gives = { λ why end. end ≡ EntryNotKept why };
 
-const IN_NO_BAG: u32 = 12;
-
-const ENTRIES_MANY: u32 = 13;
-
-const UNFINISHED: u32 = 14;
+    fn from(why: NotKept) -> End {
+        End::NotKept(why)
+    }
+}
 
 // The call: reads a trace, reports the races in it, and returns the code and the counts. Any bytes, any lengths, and whatever the
 // room holds.
@@ -123,26 +164,37 @@ pub fn check(
         | (starts.len() < PIECE)
         | (joins.len() < PIECE);
     if short {
-        return refuse(ROOM_SHORT);
+        return refuse(End::RoomShort);
     }
     if MOST_BYTES < trace.len() {
-        return refuse(TRACE_LONG);
+        return refuse(End::TraceLong);
     }
-    let answer = examine(
-        trace, report, heads, links, events, procedures, sets, starts, joins,
-    );
-    clear(heads, links, events, procedures, sets);
-    clear_numbers(starts);
-    clear_numbers(joins);
+    let mut lists = KeptLists {
+        heads,
+        links,
+        events,
+        procedures,
+        sets,
+        slots: Slots::default(),
+    };
+    let mut runs = Runs {
+        starts,
+        joins,
+        pairs: Pairs::default(),
+    };
+    let answer = examine(trace, report, &mut lists, &mut runs);
+    lists.clear();
+    clear_piece(runs.starts, 0);
+    clear_piece(runs.joins, 0);
     answer
 }
 
 // A refusal before anything is read: all other numbers are 0.
-fn refuse(code: u32) -> Answer
-    ensures { result ≡ code_alone code }
+fn refuse(end: End) -> Answer
+    ensures { result ≡ code_alone (code_of end) }
 {
     Answer {
-        code: code,
+        code: end.code(),
         events: 0,
         offset: 0,
         races: 0,
@@ -155,30 +207,24 @@ fn refuse(code: u32) -> Answer
 fn examine(
     trace: &[u8],
     report: &mut [u32],
-    heads: &mut [u32],
-    links: &mut [u32],
-    events: &mut [u32],
-    procedures: &mut [u32],
-    sets: &mut [u64],
-    starts: &mut [u32],
-    joins: &mut [u32],
+    lists: &mut KeptLists<'_>,
+    runs: &mut Runs<'_>,
 ) -> Answer
-    requires fits { Fits (pieces heads.old links.old events.old procedures.old sets.old) }
-    requires piece_size_in_bounds { piece_size ≤ length starts.old }
-    requires piece_size_in_bounds_2 { piece_size ≤ length joins.old }
+    requires fits { Fits (pieces_of lists.old) }
+    requires piece_size_in_bounds { piece_size ≤ length runs.old.starts.now }
+    requires piece_size_in_bounds_2 { piece_size ≤ length runs.old.joins.now }
     requires trace_len_bound { length trace.now ≤ most_bytes }
     ensures result { result ≡ answer trace.now }
     ensures report { report.new ≡ laid (found (run (events_of trace.now)) (stop trace.now)) report.old }
-    ensures rests { AllRestsKept (pieces heads.old links.old events.old procedures.old sets.old)
-        starts.old joins.old
-        (pieces heads.new links.new events.new procedures.new sets.new)
-        starts.new joins.new }
+    ensures rests { AllRestsKept lists.old runs.old lists.new runs.new }
+    ensures lists_lent { SameLists lists.old lists.new }
+    ensures runs_lent { SameRuns runs.old runs.new }
 {
+    runs.begin();
+    lists.empty();
     let mut state = State {
         at: 0,
         held: Held::none(),
-        pairs: begin(starts, joins),
-        slots: empty_lists(heads),
         counts: Counts {
             events: 0,
             races: 0,
@@ -187,19 +233,15 @@ fn examine(
         },
     };
     while state.at < trace.len() {
-        match step(
-            trace, state, report, heads, links, events, procedures, sets, starts, joins,
-        ) {
-            Stepped::Next(then) => {
-                state = then;
-            }
-            Stepped::Stop(code) => {
-                return state.answer(code);
-            }
+        match step(trace, state, report, lists, runs) {
+            Ok(then) => state = then,
+            Err(end) => return state.answer(end),
         }
     }
-    let pairs = state.pairs;
-    state.answer(pick(main_is_open(pairs), UNFINISHED, ACCEPTED))
+    if runs.main_is_open() {
+        return state.answer(End::Unfinished);
+    }
+    state.answer(End::Accepted)
 }
 
 // One event: it is read, tested against the rules, and brought in.
@@ -207,88 +249,65 @@ fn step(
     trace: &[u8],
     state: State,
     report: &mut [u32],
-    heads: &mut [u32],
-    links: &mut [u32],
-    events: &mut [u32],
-    procedures: &mut [u32],
-    sets: &mut [u64],
-    starts: &mut [u32],
-    joins: &mut [u32],
-) -> Stepped
-    requires stands { Stands trace.now state.counts.events state (pieces heads.old links.old events.old procedures.old sets.old)
-        starts.old joins.old }
+    lists: &mut KeptLists<'_>,
+    runs: &mut Runs<'_>,
+) -> Result<State, End>
+    requires stands { Stands trace.now state.counts.events state lists.old runs.old }
     requires at_in_bounds { state.at < length trace.now }
     requires trace_len_bound { length trace.now ≤ most_bytes }
-    ensures { AfterStep trace.now state.counts.events report.old
-        (pieces heads.old links.old events.old procedures.old sets.old)
-        starts.old joins.old report.new
-        (pieces heads.new links.new events.new procedures.new sets.new)
-        starts.new joins.new result }
+    ensures step { AfterStep trace.now state.counts.events report.old lists.old runs.old report.new lists.new runs.new result }
+    ensures lists_lent { SameLists lists.old lists.new }
+    ensures runs_lent { SameRuns runs.old runs.new }
 {
-    let pairs = state.pairs;
-    match read_event(trace, state.at) {
-        Reading::Refused(why, _) => Stepped::Stop(why.code()),
-        Reading::Found(event, next) => {
-            let running = main_is_open(pairs);
-            if !running {
-                return Stepped::Stop(AFTER_MAIN);
-            }
-            if event.is_access() {
-                return bring_access(
-                    state, event, next, report, heads, links, events, procedures, sets, starts,
-                    joins,
-                );
-            }
-            bring_other(state, event, next, starts, joins)
-        }
+    let Found { event, next } = read_event(trace, state.at)?;
+    if !runs.main_is_open() {
+        return Err(End::AfterMain);
+    }
+    if event.is_access() {
+        bring_access(state, event, next, report, lists, runs)
+    } else {
+        bring_other(state, event, next, runs)
     }
 }
 
 // An event that is no access, while main runs. Codes 8 to 11 are each tested where the kind is one that they speak of.
-fn bring_other(
-    state: State,
-    event: Event,
-    next: usize,
-    starts: &mut [u32],
-    joins: &mut [u32],
-) -> Stepped
-    requires bags_room { BagsRoom starts.old joins.old state.pairs }
+fn bring_other(state: State, event: Event, next: usize, runs: &mut Runs<'_>) -> Result<State, End>
+    requires bags_room { InRoom runs.old }
     requires small { Small state.counts }
     requires event_value { is_access event ≡ false }
-    ensures { (trace report : List ℕ) (p : Pieces) → ComesNext trace state p starts.old joins.old event next
-        → AfterStep trace state.counts.events report p starts.old joins.old report p starts.new
-        joins.new result }
+    ensures step { (trace report : List ℕ) (lists : KeptLists) → ComesNext trace state lists runs.old event next
+        → AfterStep trace state.counts.events report lists runs.old report lists runs.new result }
+    ensures runs_lent { SameRuns runs.old runs.new }
 {
-    let kind = event.kind;
+    let kind = Kind::try_from(event.kind)?;
     let lock = event.operand;
     let held = state.held;
-    let pairs = state.pairs;
-    if kind == LOCK {
-        if held.has(lock) {
-            return Stepped::Stop(HELD_ALREADY);
+    match kind {
+        Kind::Lock => {
+            if held.has(lock) {
+                return Err(End::HeldAlready);
+            }
+            let then = held.take(lock);
+            Ok(state.after_other(next, then, then.count()))
         }
-        let then = held.take(lock);
-        return Stepped::Next(state.after_other(next, then, pairs, then.count()));
-    }
-    if kind == UNLOCK {
-        if !held.has(lock) {
-            return Stepped::Stop(NOT_HELD);
+        Kind::Unlock => {
+            if !held.has(lock) {
+                return Err(End::NotHeld);
+            }
+            Ok(state.after_other(next, held.release(lock), 0))
         }
-        return Stepped::Next(state.after_other(next, held.release(lock), pairs, 0));
+        _ => {
+            if !event.lawful_holding() & !held.is_empty() {
+                return Err(End::Holding);
+            }
+            match kind {
+                Kind::Spawn => runs.spawn()?,
+                Kind::Return => runs.returns(),
+                _ => runs.sync(),
+            }
+            Ok(state.after_other(next, held, 0))
+        }
     }
-    if !event.lawful_holding() & !held.is_empty() {
-        return Stepped::Stop(HOLDING);
-    }
-    if kind == SPAWN {
-        return match spawn(pairs, starts, joins) {
-            Spawned::Begun(then) => Stepped::Next(state.after_other(next, held, then, 0)),
-            Spawned::Full => Stepped::Stop(PROCEDURES_MANY),
-        };
-    }
-    if kind == RETURN {
-        return Stepped::Next(state.after_other(next, held, returns(pairs, starts, joins), 0));
-    }
-    Stepped::Next(state.after_other(next, held, sync(pairs, joins), 0))
 }
 
 // An access, while main runs.
@@ -297,57 +316,36 @@ fn bring_access(
     event: Event,
     next: usize,
     report: &mut [u32],
-    heads: &mut [u32],
-    links: &mut [u32],
-    events: &mut [u32],
-    procedures: &mut [u32],
-    sets: &mut [u64],
-    starts: &[u32],
-    joins: &[u32],
-) -> Stepped
-    requires safe { Safe state (pieces heads.old links.old events.old procedures.old sets.old) starts.now joins.now }
+    lists: &mut KeptLists<'_>,
+    runs: &Runs<'_>,
+) -> Result<State, End>
+    requires safe { Safe state lists.old runs.now }
     requires event_value { is_access event ≡ true }
     requires event_bound { location event < piece_size }
-    ensures { (trace : List ℕ)
-        → ComesNext trace state (pieces heads.old links.old events.old procedures.old sets.old)
-        starts.now joins.now event next
-        → AfterStep trace state.counts.events report.old
-        (pieces heads.old links.old events.old procedures.old sets.old)
-        starts.now joins.now report.new
-        (pieces heads.new links.new events.new procedures.new sets.new)
-        starts.now joins.now result }
+    ensures step { (trace : List ℕ) → ComesNext trace state lists.old runs.now event next
+        → AfterStep trace state.counts.events report.old lists.old runs.now report.new lists.new runs.now result }
+    ensures lists_lent { SameLists lists.old lists.new }
 {
-    let held = state.held;
-    let pairs = state.pairs;
-    let slots = state.slots;
-    let counts = state.counts;
     let location = event.location();
     let entry = Entry {
-        event: EventNumber(counts.events),
-        procedure: running(pairs),
-        locks: held.set_of_access(event.is_read()),
+        event: EventNumber(state.counts.events),
+        procedure: runs.running(),
+        locks: state.held.set_of_access(event.is_read()),
     };
-    match access(
-        heads, links, events, procedures, sets, slots, location, entry, pairs, starts, joins,
-    ) {
-        Accessed::Done(then, visits, race) => {
-            let races = note(report, counts.races, location, entry, race);
-            Stepped::Next(state.after(next, held, pairs, then, races, visits, 0))
-        }
-        Accessed::InNoBag => Stepped::Stop(IN_NO_BAG),
-        Accessed::Full => Stepped::Stop(ENTRIES_MANY),
-    }
+    let Visited { visits, race } = lists.access(location, entry, runs)?;
+    let races = note(report, state.counts.races, location, entry, race);
+    Ok(state.after(next, state.held, races, visits, 0))
 }
 
 // The access is reported if an entry is named that it races with. Gives how many are reported then.
-fn note(report: &mut [u32], races: u32, location: u32, entry: Entry, race: Named) -> u32
+fn note(report: &mut [u32], races: u32, location: u32, entry: Entry, race: Option<Entry>) -> u32
     requires { races < most_bytes }
-    ensures result { result ≡ races + length (race_named location entry race) }
-    ensures report { report.new ≡ written races (race_named location entry race) report.old }
+    ensures result { result ≡ races + length (race_with location entry race) }
+    ensures report { report.new ≡ written races (race_with location entry race) report.old }
 {
     match race {
-        Named::Nobody => races,
-        Named::With(earlier) => {
+        None => races,
+        Some(earlier) => {
             write(report, races, location, earlier.event, entry.event);
             races + 1
         }
@@ -376,9 +374,9 @@ impl Counts {
     {
         Counts {
             events: self.events + 1,
-            races: races,
-            visits: self.visits + visits as u64,
-            most: larger(self.most, holding),
+            races,
+            visits: self.visits + u64::from(visits),
+            most: u32::max(self.most, holding),
         }
     }
 }
@@ -391,60 +389,37 @@ fn bring(counts: &mut Counts, races: u32, visits: u32, holding: u32)
     *counts = counts.after(races, visits, holding);
 }
 
-// The same by value: the counts lie in a local, which is lent.
-fn brought(counts: Counts, races: u32, visits: u32, holding: u32) -> Counts
-    requires { Small counts }
-    ensures { result ≡ counts_after counts races visits holding }
-{
-    let mut then = counts;
-    bring(&mut then, races, visits, holding);
-    then
-}
-
 impl State {
-    // The state after an accepted event: the place of the next one, and what each layer made of its part.
-    fn after(
-        self,
-        next: usize,
-        held: Held,
-        pairs: Pairs,
-        slots: Slots,
-        races: u32,
-        visits: u32,
-        holding: u32,
-    ) -> State
+    // The state after an accepted event: the place of the next one, the locks held, and the counts, which are lent to be brought
+    // forward.
+    fn after(mut self, next: usize, held: Held, races: u32, visits: u32, holding: u32) -> State
         requires { Small self.counts }
-        ensures { result ≡ state_after self next held pairs slots races visits holding }
+        ensures { result ≡ state_after self next held races visits holding }
     {
-        let counts = self.counts;
-        let then = brought(counts, races, visits, holding);
+        bring(&mut self.counts, races, visits, holding);
         State {
             at: next,
-            held: held,
-            pairs: pairs,
-            slots: slots,
-            counts: then,
+            held,
+            ..self
         }
     }
 
-    // The state after an accepted event that is no access: nothing is kept, visited or reported anew. So many locks are held then, or 0
+    // The state after an accepted event that is no access: nothing is visited or reported anew. So many locks are held then, or 0
     // where no lock was taken.
-    fn after_other(self, next: usize, held: Held, pairs: Pairs, holding: u32) -> State
+    fn after_other(self, next: usize, held: Held, holding: u32) -> State
         requires { Small self.counts }
-        ensures { result ≡ state_after self next held pairs self.slots self.counts.races 0 holding }
+        ensures { result ≡ state_after self next held self.counts.races 0 holding }
     {
-        let slots = self.slots;
-        let counts = self.counts;
-        self.after(next, held, pairs, slots, counts.races, 0, holding)
+        self.after(next, held, self.counts.races, 0, holding)
     }
 
-    // The answer with this code, the counts being as they stand.
-    fn answer(self, code: u32) -> Answer
-        ensures { result ≡ answer_with code self }
+    // The answer at this end, the counts being as they stand.
+    fn answer(self, end: End) -> Answer
+        ensures { result ≡ answer_with (code_of end) self }
     {
         let counts = self.counts;
         Answer {
-            code: code,
+            code: end.code(),
             events: counts.events,
             offset: self.at,
             races: counts.races,
@@ -452,18 +427,4 @@ impl State {
             most: counts.most,
         }
     }
-}
-
-// The larger of two numbers.
-fn larger(a: u32, b: u32) -> u32
-    ensures { result ≡ max a b }
-{
-    if a < b { b } else { a }
-}
-
-// The first number if so, else the second.
-fn pick(so: bool, first: u32, second: u32) -> u32
-    ensures { result ≡ cond so first second }
-{
-    if so { first } else { second }
 }

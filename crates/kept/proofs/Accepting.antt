@@ -13,8 +13,8 @@ use Rattle.bags.specs.Bags.{Bags}
 use Rattle.kept.specs.declared.Entry.{Entry}
 use Rattle.kept.specs.declared.Slots.{Slots}
 use Rattle.kept.specs.declared.Seen.{Seen}
-use Rattle.kept.specs.declared.Named.{Named}
-use Rattle.kept.specs.declared.Accessed.TheVariants.{Done, InNoBag, Full}
+use Rattle.kept.specs.declared.NotKept.TheVariants.{InNoBag, Full}
+use Rattle.std.specs.Prelude.{Option, Ok, Err}
 use Rattle.kept.specs.Lists.{any, those}
 use Rattle.kept.specs.Rules.{dropped, left, added, after, changed_at, in_all}
 use Rattle.kept.specs.Pieces.{Pieces, pieces, piece_size, slots_of, slots_freed, entry_at, lists_in, Chain, LaidOut, Room}
@@ -85,10 +85,10 @@ pub omitted_not_full : (seen : Seen) (slots : Slots) → seen.omitted ≡ true �
 omitted_not_full seen slots out = rw out refl
 
 -- An entry whose procedure is in no bag.
-pub answer_no_bag : (bs : List Bags) (x : ℕ) (e : Entry) (p : Pieces) (slots' : Slots) → any (in_no_bag bs) (lists_in p x) ≡ true
-    → InNoBag ≡ accessed bs x e (lists_in p) slots'
+pub answer_no_bag : (bs : List Bags) (x : ℕ) (e : Entry) (p : Pieces) → any (in_no_bag bs) (lists_in p x) ≡ true
+    → Err InNoBag ≡ accessed bs x e (lists_in p)
 unfolding accessed
-answer_no_bag bs x e p slots' stray = rw stray
+answer_no_bag bs x e p stray = rw stray
 
 module _ (bs : List Bags) (x : ℕ) (e : Entry) (p : Pieces) (slots : Slots) (room : Room p slots) (here : x < piece_size) (seen : Seen)
     (told : Told bs x e p slots seen) where
@@ -128,16 +128,17 @@ module _ (bs : List Bags) (x : ℕ) (e : Entry) (p : Pieces) (slots : Slots) (ro
       ∙ link_to_none (slots_freed p.links slots))
 
   -- No slot for the entry.
-  pub answer_full : (slots' : Slots) → any (in_no_bag bs) (lists_in p x) ≡ false → is_full seen slots ≡ true → Full ≡ accessed bs x e (lists_in p) slots'
+  pub answer_full : any (in_no_bag bs) (lists_in p x) ≡ false → is_full seen slots ≡ true → Err Full ≡ accessed bs x e (lists_in p)
   unfolding accessed
-  answer_full slots' bagged full = rw (bagged, sym full_told ∙ full)
+  answer_full bagged full = rw (bagged, sym full_told ∙ full)
 
   -- Neither.
-  pub answer_done : (slots' : Slots) (race : Named) → any (in_no_bag bs) (lists_in p x) ≡ false → is_full seen slots ≡ false
-      → race ≡ named_at p.events p.procedures p.sets seen.race → Done slots' seen.visits race ≡ accessed bs x e (lists_in p) slots'
+  pub answer_done : (race : Option Entry) → any (in_no_bag bs) (lists_in p x) ≡ false → is_full seen slots ≡ false
+      → race ≡ named_at p.events p.procedures p.sets seen.race → Ok (record { visits = seen.visits; race = race }) ≡ accessed bs x e (lists_in p)
   unfolding accessed
-  answer_done slots' race bagged full named =
-      rw (bagged, sym full_told ∙ full) (ap₂ (Done slots') told.visits_told (named ∙ told.race_told))
+  answer_done race bagged full named =
+      rw (bagged, sym full_told ∙ full)
+      (ap₂ (λ (v : ℕ) (r : Option Entry). Ok (record { visits = v; race = r })) told.visits_told (named ∙ told.race_told))
 
   -- ---- what is left
 

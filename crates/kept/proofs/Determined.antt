@@ -11,8 +11,9 @@ use borrow.Author.Tests.{lt-ltb}
 use Rattle.bags.specs.Bags.{Bags}
 use Rattle.kept.specs.declared.Entry.{Entry}
 use Rattle.kept.specs.declared.Slots.{Slots}
-use Rattle.kept.specs.declared.Accessed.{Accessed}
-use Rattle.kept.specs.declared.Accessed.TheVariants.{Done, InNoBag, Full}
+use Rattle.kept.specs.declared.Visited.{Visited}
+use Rattle.kept.specs.declared.NotKept.{NotKept}
+use Rattle.std.specs.Prelude.{Result, Ok, Err}
 use Rattle.kept.specs.Lists.{sum_below}
 use Rattle.kept.specs.Pieces.{Pieces, pieces, piece_size, slots_of, times_in, LaidOut, RestKept}
 use Rattle.kept.specs.Access.{place_at, slots_here, freed_after, slots_after, Accepted, AfterAccess}
@@ -72,8 +73,8 @@ module _ (bs : List Bags) (x : ℕ) (e : Entry) (p : Pieces) (slots : Slots) (p'
       (same_link p'.heads p'.links p''.heads p''.links slots' lists freed a.laid_out b.laid_out) in
       same_pieces heads-same links-same (a.events ∙ sym b.events) (a.procedures ∙ sym b.procedures) (a.sets ∙ sym b.sets)
 
-  -- No two ways to leave the pieces go with one result.
-  pub access_determines : (r : Accessed) → AfterAccess bs x e p slots p' r → AfterAccess bs x e p slots p'' r → p' ≡ p''
-  access_determines (Done slots' visits race) a b = accepted_determines a b
-  access_determines InNoBag a b = a ∙ sym b
-  access_determines Full a b = a ∙ sym b
+  -- No two ways to leave the pieces and the slots go with one result.
+  pub access_determines : (slots' slots'' : Slots) (r : Result Visited NotKept) → AfterAccess bs x e p slots p' slots' r
+      → AfterAccess bs x e p slots p'' slots'' r → (p' ≡ p'') × (slots' ≡ slots'')
+  access_determines slots' slots'' (Ok visited) a b = (accepted_determines a.1 b.1, a.0 ∙ sym b.0)
+  access_determines slots' slots'' (Err why) a b = (a.0 ∙ sym b.0, a.1 ∙ sym b.1)

@@ -4,17 +4,15 @@ use Prim.Native.Nat.{ℕ}
 use mathlib.Core.Path.{◌≡◌, refl}
 use mathlib.Core.Bool.{Bool, true, false, cond, ◌||◌}
 use mathlib.Core.List.{List, [], ◌∷◌}
-use mathlib.Core.Option.{none, some}
 use native.Mathlib.Omega.{arith}
 use lib.Dec.{eqb, ltb}
 use Rattle.locks.specs.Sets.{is_in, every, apart, within}
 use Rattle.bags.specs.Parallel.{member}
 use Rattle.bags.specs.Bags.{Bags, in_s_bag, in_p_bag, in_some_bag}
 use Rattle.kept.specs.declared.Entry.{Entry}
-use Rattle.kept.specs.declared.Slots.{Slots}
-use Rattle.kept.specs.declared.Named.{Named}
-use Rattle.kept.specs.declared.Accessed.TheVariants.{Done, InNoBag, Full}
-use Rattle.kept.specs.declared.Looked.TheVariants.{Stray}
+use Rattle.kept.specs.declared.Visited.{Visited}
+use Rattle.kept.specs.declared.NotKept.TheVariants.{InNoBag, Full}
+use Rattle.std.specs.Prelude.{None, Some, Ok, Err}
 use Rattle.kept.specs.Lists.{any, first, those}
 use Rattle.kept.specs.Rules.{races, reported, named, dropped, left, omits, added, after, changed_at}
 use Rattle.kept.specs.Theorem.{Run, Race, Lawful, kept, visited}
@@ -49,7 +47,7 @@ dropped_entry_lawful = record {
 pub dropped_entry_as_known :
     (kept dropped_entry 5 0 ≡ entry_by 2 2 0 ∷ [])
     × (kept dropped_entry 7 0 ≡ entry_by 5 1 0 ∷ [])
-    × (named (dropped_entry.parallel 7) (dropped_entry.entry 7) (visited dropped_entry 7) ≡ some (entry_by 5 1 0))
+    × (named (dropped_entry.parallel 7) (dropped_entry.entry 7) (visited dropped_entry 7) ≡ Some (entry_by 5 1 0))
 unfolding kept changed_at after left dropped added omits named races any first those is_in every apart within
 dropped_entry_as_known = (refl, refl, refl)
 
@@ -83,8 +81,8 @@ two_locks_lawful set = record {
 -- Both writers are kept: neither set lies within the other. Under lock 0 event 2 races with event 1 alone, and under lock 1 with event 0 alone.
 pub both_kept :
     ((set : ℕ) → visited (two_locks set) 2 ≡ entry_by 0 0 1 ∷ entry_by 1 1 2 ∷ [])
-    × (named ((two_locks 1).parallel 2) ((two_locks 1).entry 2) (visited (two_locks 1) 2) ≡ some (entry_by 1 1 2))
-    × (named ((two_locks 2).parallel 2) ((two_locks 2).entry 2) (visited (two_locks 2) 2) ≡ some (entry_by 0 0 1))
+    × (named ((two_locks 1).parallel 2) ((two_locks 1).entry 2) (visited (two_locks 1) 2) ≡ Some (entry_by 1 1 2))
+    × (named ((two_locks 2).parallel 2) ((two_locks 2).entry 2) (visited (two_locks 2) 2) ≡ Some (entry_by 0 0 1))
 unfolding kept changed_at after left dropped added omits named races any first those is_in every apart within
 both_kept = (λ set. refl, refl, refl)
 
@@ -99,7 +97,7 @@ one_is_too_few = (refl, refl)
 
 -- Where nothing is kept, no access is reported, no entry is named, and the access is added.
 pub first_access : (parallel : Entry → Bool) (e : Entry)
-    → (reported parallel e [] ≡ false) × (named parallel e [] ≡ none) × (after parallel e [] ≡ e ∷ [])
+    → (reported parallel e [] ≡ false) × (named parallel e [] ≡ None) × (after parallel e [] ≡ e ∷ [])
 unfolding reported named after left added any first those
 first_access parallel e = (refl, refl, refl)
 
@@ -128,7 +126,7 @@ unfolding after left dropped added omits any those is_in every within member in_
 smaller_set_stays = refl
 
 -- Of two entries that race the first is named.
-pub first_is_named : named (parallel_by main_runs) (new 0) (entry_by 3 1 1 ∷ entry_by 4 1 2 ∷ []) ≡ some (entry_by 3 1 1)
+pub first_is_named : named (parallel_by main_runs) (new 0) (entry_by 3 1 1 ∷ entry_by 4 1 2 ∷ []) ≡ Some (entry_by 3 1 1)
 unfolding named races first is_in every apart member in_p_bag
 first_is_named = refl
 
@@ -143,7 +141,7 @@ unfolding seen_over weighed_entry races dropped omits is_in every apart within m
 seen_of_two = refl
 
 -- An entry of procedure 2 is in no bag, also where the sets share a lock and neither lies within the other.
-pub looked_in_no_bag : looked_over main_runs (new 3) (2 ∷ []) (6 ∷ []) (0 ∷ []) ≡ Stray
+pub looked_in_no_bag : looked_over main_runs (new 3) (2 ∷ []) (6 ∷ []) (0 ∷ []) ≡ Err InNoBag
 unfolding looked_over some_stray any member in_s_bag in_p_bag in_some_bag
 looked_in_no_bag = refl
 
@@ -182,5 +180,5 @@ unfolding cleared
 two_cleared = refl
 
 -- The codes.
-pub codes : (slots : Slots) (race : Named) → (code_of (Done slots 0 race) ≡ 0) × (code_of InNoBag ≡ 12) × (code_of Full ≡ 13)
-codes slots race = (refl, refl, refl)
+pub codes : (visited : Visited) → (code_of (Ok visited) ≡ 0) × (code_of (Err InNoBag) ≡ 12) × (code_of (Err Full) ≡ 13)
+codes visited = (refl, refl, refl)

@@ -1,6 +1,5 @@
 pub mod Lists
 pub mod Covering
-pub mod Linking
 pub mod Clearing
 pub mod Visits
 pub mod Sums

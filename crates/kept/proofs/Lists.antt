@@ -5,7 +5,8 @@ use mathlib.Core.Path.{◌≡◌, refl, sym, ap, ◌∙◌, subst}
 use mathlib.Core.Logic.{◌⊎◌, inl, inr, ⊎_elim}
 use mathlib.Core.Bool.{Bool, true, false, not, true≢false}
 use mathlib.Core.List.{List, [], ◌∷◌, ◌++◌, map}
-use mathlib.Core.Option.{some, some-injective, none-ne-some}
+use Rattle.std.specs.Prelude.{Some}
+use Rattle.std.proofs.lemmas.Option.{none-some, same_Some}
 use native.Mathlib.Omega.{arith}
 use lib.Dec.{eqb}
 use lib.ListN.{length}
@@ -43,12 +44,12 @@ module _ {A : Type 0} where
       either_way (any test list) (λ q. let found = any_has test list q in absurd (true≢false (sym found.2 ∙ f found.0 found.1))) (λ q. q)
 
   -- The first to which a test says yes is in the list, and the test says yes to it.
-  pub first_has : (test : A → Bool) (list : List A) (a : A) → first test list ≡ some a → In a list × (test a ≡ true)
+  pub first_has : (test : A → Bool) (list : List A) (a : A) → first test list ≡ Some a → In a list × (test a ≡ true)
   unfolding first In
-  first_has test [] a q = absurd (none-ne-some a q)
+  first_has test [] a q = absurd (none-some a q)
   first_has test (b ∷ list) a q =
       either_way (test b)
-      (λ t. let same = some-injective b a (rw t at q) in (inl (sym same), ap test (sym same) ∙ t))
+      (λ t. let same = same_Some b a (rw t at q) in (inl (sym same), ap test (sym same) ∙ t))
       (λ t. let rest = first_has test list a (rw t at q) in (inr rest.0, rest.1))
 
   -- Whoever is among `those` is in the list, and the test says yes to it; and the other way round.
@@ -139,14 +140,14 @@ module _ {A : Type 0} (R : A → A → Type 0) where
   )
 
   -- The first to which a test says yes is so related to every other to which it does.
-  pub first_related : (test : A → Bool) (list : List A) (a b : A) → Pairwise list → first test list ≡ some a → In b list → test b ≡ true
+  pub first_related : (test : A → Bool) (list : List A) (a b : A) → Pairwise list → first test list ≡ Some a → In b list → test b ≡ true
       → (a ≡ b) ⊎ R a b
   unfolding Pairwise first In
   first_related test [] a b p q h t = absurd h
   first_related test (c ∷ list) a b p q h t =
       either_way (test c)
       (λ s.
-      let same = some-injective c a (rw s at q) in
+      let same = same_Some c a (rw s at q) in
       ⊎_elim (λ (w : b ≡ c). inl (sym same ∙ sym w)) (λ (w : In b list). inr (subst (λ (d : A). R d b) same (p.0 b w))) h)
       (λ s.
       ⊎_elim (λ (w : b ≡ c). absurd (true≢false (sym t ∙ ap test w ∙ s)))

@@ -15,13 +15,14 @@ use borrow.Author.Tests.{eq-eqb, ne_eqb, le-ltb}
 use Rattle.bags.specs.Bags.{Bags}
 use Rattle.kept.specs.declared.Entry.{Entry}
 use Rattle.kept.specs.declared.Slots.{Slots}
-use Rattle.kept.specs.declared.Named.{Named}
-use Rattle.kept.specs.declared.Accessed.{Accessed}
-use Rattle.kept.specs.declared.Accessed.TheVariants.{Done, InNoBag, Full}
+use Rattle.kept.specs.declared.Visited.{Visited}
+use Rattle.kept.specs.declared.NotKept.{NotKept}
+use Rattle.kept.specs.declared.NotKept.TheVariants.{InNoBag, Full}
+use Rattle.std.specs.Prelude.{Result, Ok, Err}
 use Rattle.kept.specs.Lists.{any, sum_below}
 use Rattle.kept.specs.Rules.{named, dropped, left, added, after, Lists, changed_at, in_all}
 use Rattle.kept.specs.Pieces.{Pieces, pieces, piece_size, slots_of, entry_at, lists_in, Chain, times_in, LaidOut, Fits, Room, RestKept, none_used, cleared}
-use Rattle.kept.specs.Access.{parallel_by, in_no_bag, nobody_or, code_of, access_code, accessed, place_at, next_slot}
+use Rattle.kept.specs.Access.{parallel_by, in_no_bag, code_of, access_code, accessed, place_at, next_slot}
 use Rattle.kept.specs.Access.{is_omitted, slots_left, pool, slots_here, freed_after, slots_after, stored, Accepted, AfterAccess}
 use Rattle.kept.specs.Holds.{Holds, RestsKept}
 use Rattle.kept.proofs.Lists.{either_way}
@@ -91,44 +92,40 @@ holds_empty p fits =
 -- Its code is 12, 13 or 0, by 01's rules in that order; and where nothing is refused it gives the length of the list and the entry
 -- named.
 abbrev CodeTold : Type 0
-CodeTold =
-    (bs : List Bags) (x : ℕ) (e : Entry) (lists : Lists) (slots' : Slots) → code_of (accessed bs x e lists slots') ≡ access_code bs x e lists
+CodeTold = (bs : List Bags) (x : ℕ) (e : Entry) (lists : Lists) → code_of (accessed bs x e lists) ≡ access_code bs x e lists
 
 abbrev DoneTold : Type 0
 DoneTold =
-    (bs : List Bags) (x : ℕ) (e : Entry) (lists : Lists) (slots' slots'' : Slots) (visits : ℕ) (race : Named)
-    → Done slots'' visits race ≡ accessed bs x e lists slots'
-    → (slots'' ≡ slots') × (visits ≡ length (lists x)) × (race ≡ nobody_or (named (parallel_by bs) e (lists x)))
+    (bs : List Bags) (x : ℕ) (e : Entry) (lists : Lists) (visited : Visited) → Ok visited ≡ accessed bs x e lists
+    → (visited.visits ≡ length (lists x)) × (visited.race ≡ named (parallel_by bs) e (lists x))
 
 -- The code of the answer, by the two tests.
 pub code_told : CodeTold
 unfolding accessed
-code_told bs x e lists slots' =
+code_told bs x e lists =
     let full = ltb piece_size (in_all piece_size (changed_at x (after (parallel_by bs) e) lists)) in
     either_way (any (in_no_bag bs) (lists x)) (λ q. rw q) (λ q. rw q (either_way full (λ r. rw r) (λ r. rw r)))
 
--- The parts of what is given where nothing is refused, and else some others.
-abbrev parts_or : Slots × ℕ × Named → Accessed → Slots × ℕ × Named
-parts_or others (Done slots visits race) = (slots, visits, race)
-parts_or others InNoBag = others
-parts_or others Full = others
+-- What is given where nothing is refused, and else something else.
+abbrev given_or : Visited → Result Visited NotKept → Visited
+given_or other (Ok visited) = visited
+given_or other (Err why) = other
 
 -- No refusal is the same as nothing refused, and where nothing is refused, the same is given only if each part is the same.
-same_parts : (stray full : Bool) (slots slots' : Slots) (visits visits' : ℕ) (race race' : Named)
-    → Done slots visits race ≡ cond stray InNoBag (cond full Full (Done slots' visits' race'))
-    → (slots ≡ slots') × (visits ≡ visits') × (race ≡ race')
-same_parts true full slots slots' visits visits' race race' same = absurd (let code : 0 ≡ 12 = ap code_of same in omega arith)
-same_parts false true slots slots' visits visits' race race' same = absurd (let code : 0 ≡ 13 = ap code_of same in omega arith)
-same_parts false false slots slots' visits visits' race race' same =
-    let parts = ap (parts_or (slots, visits, race)) same in
-    (ap (λ (t : Slots × ℕ × Named). t.0) parts, ap (λ (t : Slots × ℕ × Named). t.1) parts, ap (λ (t : Slots × ℕ × Named). t.2) parts)
+same_parts : (stray full : Bool) (visited visited' : Visited) → Ok visited ≡ cond stray (Err InNoBag) (cond full (Err Full) (Ok visited'))
+    → visited ≡ visited'
+same_parts true full visited visited' same = absurd (let code : 0 ≡ 12 = ap code_of same in omega arith)
+same_parts false true visited visited' same = absurd (let code : 0 ≡ 13 = ap code_of same in omega arith)
+same_parts false false visited visited' same = ap (given_or visited) same
 
 -- What is given where nothing is refused.
 pub done_told : DoneTold
 unfolding accessed
-done_told bs x e lists slots' slots'' visits race same =
-    same_parts (any (in_no_bag bs) (lists x)) (ltb piece_size (in_all piece_size (changed_at x (after (parallel_by bs) e) lists))) slots'' slots' visits
-    (length (lists x)) race (nobody_or (named (parallel_by bs) e (lists x))) same
+done_told bs x e lists visited same =
+    let parts =
+    same_parts (any (in_no_bag bs) (lists x)) (ltb piece_size (in_all piece_size (changed_at x (after (parallel_by bs) e) lists))) visited
+    (record { visits = length (lists x); race = named (parallel_by bs) e (lists x) }) same in
+    (ap (λ (v : Visited). v.visits) parts, ap (λ (v : Visited). v.race) parts)
 
 -- Where lists agree, so do the changed ones.
 changed_agree : (x y : ℕ) (change : List Entry → List Entry) (lists lists' : Lists) → lists y ≡ lists' y
@@ -137,10 +134,10 @@ unfolding changed_at
 changed_agree x y change lists lists' same = ap (λ (list : List Entry). cond (eqb y x) (change list) list) same
 
 -- Lists that agree give the same answer.
-accessed_agree : (bs : List Bags) (x : ℕ) (e : Entry) (lists lists' : Lists) (slots : Slots) → x < piece_size
-    → ((y : ℕ) → y < piece_size → lists y ≡ lists' y) → accessed bs x e lists slots ≡ accessed bs x e lists' slots
+accessed_agree : (bs : List Bags) (x : ℕ) (e : Entry) (lists lists' : Lists) → x < piece_size
+    → ((y : ℕ) → y < piece_size → lists y ≡ lists' y) → accessed bs x e lists ≡ accessed bs x e lists'
 unfolding accessed in_all
-accessed_agree bs x e lists lists' slots here same =
+accessed_agree bs x e lists lists' here same =
     let rule = after (parallel_by bs) e in
     let in_all = sum_agree piece_size (λ y. length (changed_at x rule lists' y)) (λ y. length (changed_at x rule lists y))
     (λ y h. ap length (changed_agree x y rule lists lists' (same y h))) in
@@ -320,43 +317,39 @@ same_rests p = record {
 }
 
 -- Whatever the answer, what lies past 4,096 is kept.
-pub rests_kept : (bs : List Bags) (x : ℕ) (e : Entry) (p : Pieces) (slots : Slots) (p' : Pieces) (r : Accessed) → x < piece_size → Room p slots
-    → AfterAccess bs x e p slots p' r → RestsKept p p'
-rests_kept bs x e p slots p' (Done slots' visits race) here room accepted = rests_after bs x e p slots room here p' accepted
-rests_kept bs x e p slots p' InNoBag here room same = rw same (same_rests p)
-rests_kept bs x e p slots p' Full here room same = rw same (same_rests p)
+pub rests_kept : (bs : List Bags) (x : ℕ) (e : Entry) (p : Pieces) (slots : Slots) (p' : Pieces) (slots' : Slots) (r : Result Visited NotKept)
+    → x < piece_size → Room p slots → AfterAccess bs x e p slots p' slots' r → RestsKept p p'
+rests_kept bs x e p slots p' slots' (Ok visited) here room accepted = rests_after bs x e p slots room here p' accepted.1
+rests_kept bs x e p slots p' slots' (Err why) here room same = rw same.0 (same_rests p)
 
 -- After an access they hold what the rules make of the lists; after a refusal, the same lists.
-abbrev ListsAfter : List Bags → ℕ → Entry → Lists → Pieces → Slots → Accessed → Type 0
-ListsAfter bs x e lists p' slots (Done slots' visits race) = Holds (changed_at x (after (parallel_by bs) e) lists) p' slots'
-ListsAfter bs x e lists p' slots InNoBag = Holds lists p' slots
-ListsAfter bs x e lists p' slots Full = Holds lists p' slots
+abbrev ListsAfter : List Bags → ℕ → Entry → Lists → Pieces → Slots → Result Visited NotKept → Type 0
+ListsAfter bs x e lists p' slots' (Ok visited) = Holds (changed_at x (after (parallel_by bs) e) lists) p' slots'
+ListsAfter bs x e lists p' slots' (Err why) = Holds lists p' slots'
 
 -- So it does, by what `access` promises; and the lists held tell what it gives.
 abbrev HoldsAccess : Type 0
 HoldsAccess =
-    (bs : List Bags) (x : ℕ) (e : Entry) (lists : Lists) (p : Pieces) (slots : Slots) (p' : Pieces) (r : Accessed) → x < piece_size → Holds lists p slots
-    → r ≡ accessed bs x e (lists_in p) (slots_after bs x e p slots) → AfterAccess bs x e p slots p' r
-    → (r ≡ accessed bs x e lists (slots_after bs x e p slots)) × ListsAfter bs x e lists p' slots r
+    (bs : List Bags) (x : ℕ) (e : Entry) (lists : Lists) (p : Pieces) (slots : Slots) (p' : Pieces) (slots' : Slots) (r : Result Visited NotKept)
+    → x < piece_size → Holds lists p slots → r ≡ accessed bs x e (lists_in p) → AfterAccess bs x e p slots p' slots' r
+    → (r ≡ accessed bs x e lists) × ListsAfter bs x e lists p' slots' r
 
 -- After each answer the pieces hold the lists that they should.
-holds_after : (bs : List Bags) (x : ℕ) (e : Entry) (lists : Lists) (p : Pieces) (slots : Slots) (p' : Pieces) (r : Accessed) → x < piece_size
-    → Holds lists p slots → r ≡ accessed bs x e (lists_in p) (slots_after bs x e p slots) → AfterAccess bs x e p slots p' r
-    → ListsAfter bs x e lists p' slots r
-holds_after bs x e lists p slots p' (Done slots' visits race) here holds is accepted =
-    let same = (done_told bs x e (lists_in p) (slots_after bs x e p slots) slots' visits race is).0 in
+holds_after : (bs : List Bags) (x : ℕ) (e : Entry) (lists : Lists) (p : Pieces) (slots : Slots) (p' : Pieces) (slots' : Slots)
+    (r : Result Visited NotKept) → x < piece_size → Holds lists p slots → AfterAccess bs x e p slots p' slots' r → ListsAfter bs x e lists p' slots' r
+holds_after bs x e lists p slots p' slots' (Ok visited) here holds accepted =
     record {
-      room = subst (Room p') (sym same) (room_after bs x e p slots holds.room here p' accepted);
+      room = subst (Room p') (sym accepted.0) (room_after bs x e p slots holds.room here p' accepted.1);
       held = λ y h.
-          held_after bs x e p slots holds.room here p' accepted y h
+          held_after bs x e p slots holds.room here p' accepted.1 y h
           ∙ changed_agree x y (after (parallel_by bs) e) (lists_in p) lists (holds.held y h);
     }
-holds_after bs x e lists p slots p' InNoBag here holds is same = subst (λ (q : Pieces). Holds lists q slots) (sym same) holds
-holds_after bs x e lists p slots p' Full here holds is same = subst (λ (q : Pieces). Holds lists q slots) (sym same) holds
+holds_after bs x e lists p slots p' slots' (Err why) here holds same =
+    subst (λ (q : Pieces). Holds lists q slots') (sym same.0) (subst (Holds lists p) (sym same.1) holds)
 
 -- What an access gives and leaves, by the lists held.
 pub holds_access : HoldsAccess
-holds_access bs x e lists p slots p' r here holds is after-access = (
-  is ∙ accessed_agree bs x e (lists_in p) lists (slots_after bs x e p slots) here holds.held,
-  holds_after bs x e lists p slots p' r here holds is after-access,
+holds_access bs x e lists p slots p' slots' r here holds is after-access = (
+  is ∙ accessed_agree bs x e (lists_in p) lists here holds.held,
+  holds_after bs x e lists p slots p' slots' r here holds after-access,
 )

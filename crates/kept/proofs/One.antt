@@ -11,7 +11,7 @@ use Rattle.kept.specs.declared.Entry.{Entry}
 use Rattle.kept.specs.declared.Slots.{Slots}
 use Rattle.kept.specs.declared.Seen.{Seen}
 use Rattle.kept.specs.declared.Weighed.{Weighed}
-use Rattle.kept.specs.declared.Named.TheVariants.{Nobody}
+use Rattle.std.specs.Prelude.{None}
 use Rattle.kept.specs.Lists.{any, first, those}
 use Rattle.kept.specs.Rules.{races, named, dropped, omits}
 use Rattle.kept.specs.Pieces.{Pieces, pieces, piece_size, slots_of, slots_freed, entry_at, lists_in, Chain, Room}
@@ -92,7 +92,7 @@ module _ (bs : List Bags) (x : ℕ) (e : Entry) (p : Pieces) (slots : Slots) (ro
     unfolding lists_in any omits
     not_left_out = rw (one, in_series) refl
 
-    pub one_nobody : Nobody ≡ named_at p.events p.procedures p.sets seen.race
+    pub one_nobody : None ≡ named_at p.events p.procedures p.sets seen.race
     unfolding lists_in named first races
     one_nobody = sym (told.race_told ∙ rw (one, in_series) refl)
 

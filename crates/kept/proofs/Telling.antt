@@ -3,21 +3,21 @@ use Prim.Native.Nat.{ℕ, zero, suc, ◌+◌, ◌≤◌, ◌<◌}
 use mathlib.Core.Path.{◌≡◌, refl, sym, ap, ◌∙◌}
 use mathlib.Core.Bool.{Bool, true, false, cond, not, ◌&&◌, ◌||◌, and-false, or-false, true≢false}
 use mathlib.Core.List.{List, [], ◌∷◌, ◌++◌, map}
-use mathlib.Core.Option.{Option, none, some}
 use native.Mathlib.Omega.{arith}
 use lib.Dec.{eqb, eqb-suc-zero}
 use lib.ListN.{length, get_or, length-map}
 use borrow.Author.Tests.{eq-eqb, ne_eqb}
+use Rattle.std.specs.Prelude.{Option, None, Some, Result, Ok, Err, is_err}
 use Rattle.bags.specs.Bags.{Bags}
 use Rattle.kept.specs.declared.Entry.{Entry}
 use Rattle.kept.specs.declared.Seen.{Seen}
-use Rattle.kept.specs.declared.Looked.{Looked}
-use Rattle.kept.specs.declared.Looked.TheVariants.{All, Stray}
+use Rattle.kept.specs.declared.NotKept.{NotKept}
+use Rattle.kept.specs.declared.NotKept.TheVariants.{InNoBag}
 use Rattle.kept.specs.declared.Slots.{Slots}
 use Rattle.kept.specs.Lists.{any, first, those}
 use Rattle.kept.specs.Rules.{races, named, dropped, omits}
 use Rattle.kept.specs.Pieces.{Pieces, piece_size, slots_of, slots_freed, entry_at, lists_in, Chain, Room}
-use Rattle.kept.specs.Access.{parallel_by, in_no_bag, nobody_or, drops, is_omitted, slots_left, link_to}
+use Rattle.kept.specs.Access.{parallel_by, in_no_bag, drops, is_omitted, slots_left, link_to}
 use Rattle.kept.specs.Parts.{entry_of, nothing_seen, weighed_entry, seen_over, some_stray, looked_over, Walkable, named_at}
 use Rattle.kept.specs.Parts.{drops_by, how_many, last_of, FirstDropped}
 use Rattle.kept.proofs.Lists.{either_way}
@@ -33,8 +33,8 @@ any_of_map f test (a ∷ list) = ap (cond (test (f a)) true) (any_of_map f test 
 
 -- The link to a slot, if one is found.
 unfoldable link_of : Option ℕ → ℕ
-link_of none = 0
-link_of (some s) = suc s
+link_of None = 0
+link_of (Some s) = suc s
 
 -- The last slot, after those seen before.
 unfoldable last_from : ℕ → List ℕ → ℕ
@@ -69,7 +69,7 @@ last_from_more false before s rest = refl
 
 -- One more that races, or not: the first found stands.
 race_of_more : (b : Bool) (r s : ℕ) (found : Option ℕ)
-    → cond (eqb (cond (b && eqb r 0) (suc s) r) 0) (link_of found) (cond (b && eqb r 0) (suc s) r) ≡ cond (eqb r 0) (link_of (cond b (some s) found)) r
+    → cond (eqb (cond (b && eqb r 0) (suc s) r) 0) (link_of found) (cond (b && eqb r 0) (suc s) r) ≡ cond (eqb r 0) (link_of (cond b (Some s) found)) r
 unfolding link_of
 race_of_more true zero s found = rw (eqb-suc-zero s)
 race_of_more false zero s found = refl
@@ -89,18 +89,18 @@ not_the_first : (b : Bool) (d new old : ℕ) → (d ≡ 0 → ⊥) → cond (b &
 not_the_first b d new old ne = rw (ne_eqb d 0 ne, and-false b) refl
 
 -- The two answers differ, and everything seen is what it holds.
-abbrev is_stray : Looked → Bool
-is_stray Stray = true
-is_stray (All seen) = false
+abbrev seen_in : Result Seen NotKept → Seen
+seen_in (Err why) = nothing_seen
+seen_in (Ok seen) = seen
 
-abbrev seen_in : Looked → Seen
-seen_in Stray = nothing_seen
-seen_in (All seen) = seen
+abbrev why_in : NotKept → Result Seen NotKept → NotKept
+why_in other (Err why) = why
+why_in other (Ok seen) = other
 
-stray_or_all : {seen : Seen} → Stray ≡ All seen → ⊥
-stray_or_all is = true≢false (ap is_stray is)
+stray_or_all : {why : NotKept} {seen : Seen} → ◌≡◌ {A = Result Seen NotKept} (Err why) (Ok seen) → ⊥
+stray_or_all is = true≢false (ap is_err is)
 
-all_is : {seen seen' : Seen} → All seen ≡ All seen' → seen ≡ seen'
+all_is : {seen seen' : Seen} → ◌≡◌ {A = Result Seen NotKept} (Ok seen) (Ok seen') → seen ≡ seen'
 all_is is = ap seen_in is
 
 -- ---- what is seen
@@ -191,7 +191,7 @@ zero_more n = omega arith
 
 -- The entry that the first link leads to is the first entry; and that link is small.
 race_found : (p : Pieces) (test : Entry → Bool) (ss : List ℕ)
-    → named_at p.events p.procedures p.sets (link_of (first (λ s. test (entry_at p s)) ss)) ≡ nobody_or (first test (map (entry_at p) ss))
+    → named_at p.events p.procedures p.sets (link_of (first (λ s. test (entry_at p s)) ss)) ≡ first test (map (entry_at p) ss)
 unfolding first link_of
 race_found p test [] = refl
 race_found p test (s ∷ ss) = either_way (test (entry_at p s)) (λ q. rw q) (λ q. rw q (race_found p test ss))
@@ -211,7 +211,7 @@ module _ (bs : List Bags) (x : ℕ) (e : Entry) (p : Pieces) (slots : Slots) whe
     pub last_told : seen.last ≡ last_of (slots_left bs x e p)
     pub first_told : (seen.dropped ≡ 0 → ⊥)
         → FirstDropped (drops_by bs e p.procedures p.sets) (slots_of p.heads p.links x) seen.first seen.before
-    pub race_told : named_at p.events p.procedures p.sets seen.race ≡ nobody_or (named (parallel_by bs) e (lists_in p x))
+    pub race_told : named_at p.events p.procedures p.sets seen.race ≡ named (parallel_by bs) e (lists_in p x)
     pub race_fit : seen.race ≤ piece_size
 
   pub seen_tells : (seen : Seen) → Walkable p.heads p.links x
@@ -262,20 +262,21 @@ room_walkable p slots x room here = record {
 
 -- What looking at a list gives, by the list that the pieces hold: some entry's procedure is in no bag, or none is and everything is seen.
 module _ (bs : List Bags) (x : ℕ) (e : Entry) (p : Pieces) (slots : Slots) where
-  abbrev looked : Looked
+  abbrev looked : Result Seen NotKept
   looked = looked_over bs e p.procedures p.sets (slots_of p.heads p.links x)
 
   stray_is : some_stray bs e p.procedures p.sets (slots_of p.heads p.links x) ≡ any (in_no_bag bs) (lists_in p x)
   unfolding some_stray lists_in
   stray_is = sym (any_of_map (entry_at p) (in_no_bag bs) (slots_of p.heads p.links x))
 
-  pub looked_stray : Stray ≡ looked → any (in_no_bag bs) (lists_in p x) ≡ true
+  -- Of the refusals it gives only that.
+  pub looked_stray : (why : NotKept) → Err why ≡ looked → (any (in_no_bag bs) (lists_in p x) ≡ true) × (why ≡ InNoBag)
   unfolding looked_over
-  looked_stray is =
-      either_way (some_stray bs e p.procedures p.sets (slots_of p.heads p.links x)) (λ q. sym stray_is ∙ q)
+  looked_stray why is =
+      either_way (some_stray bs e p.procedures p.sets (slots_of p.heads p.links x)) (λ q. (sym stray_is ∙ q, ap (why_in InNoBag) (rw q at is)))
       (λ q. absurd (stray_or_all (rw q at is)))
 
-  pub looked_all : (seen : Seen) → Walkable p.heads p.links x → All seen ≡ looked
+  pub looked_all : (seen : Seen) → Walkable p.heads p.links x → Ok seen ≡ looked
       → (any (in_no_bag bs) (lists_in p x) ≡ false) × (seen ≡ seen_over bs e p.procedures p.sets (slots_of p.heads p.links x) nothing_seen)
   unfolding looked_over
   looked_all seen walkable is =
@@ -283,7 +284,7 @@ module _ (bs : List Bags) (x : ℕ) (e : Entry) (p : Pieces) (slots : Slots) whe
       (λ q. (sym stray_is ∙ q, all_is (rw q at is)))
 
   -- So all that is told of a list follows from what looking at it gives.
-  pub looked_tells : (seen : Seen) → Room p slots → x < piece_size → All seen ≡ looked
+  pub looked_tells : (seen : Seen) → Room p slots → x < piece_size → Ok seen ≡ looked
       → (any (in_no_bag bs) (lists_in p x) ≡ false)
       × (seen ≡ seen_over bs e p.procedures p.sets (slots_of p.heads p.links x) nothing_seen)
       × Told bs x e p slots seen

@@ -11,14 +11,15 @@ use lib.Seq.{drop_at}
 use borrow.Author.Tests.{ltb-true, ltb-false}
 use Rattle.bags.specs.Bags.{Bags}
 use Rattle.kept.specs.declared.Entry.{Entry}
-use Rattle.kept.specs.declared.Slots.{Slots}
-use Rattle.kept.specs.declared.Accessed.{Accessed}
-use Rattle.kept.specs.declared.Accessed.TheVariants.{Done, InNoBag, Full}
+use Rattle.kept.specs.declared.Visited.{Visited}
+use Rattle.kept.specs.declared.NotKept.{NotKept}
+use Rattle.kept.specs.declared.NotKept.TheVariants.{InNoBag, Full}
+use Rattle.std.specs.Prelude.{is_some, Result, Ok, Err}
 use Rattle.kept.specs.Lists.{any, first}
 use Rattle.kept.specs.Rules.{races, reported, named, dropped, left, omits, added, after, changed_at, in_all}
 use Rattle.kept.specs.Theorem.{Run, kept, visited}
 use Rattle.kept.specs.Pieces.{piece_size, cleared}
-use Rattle.kept.specs.Access.{parallel_by, in_no_bag, nobody_or, is_named, code_of, access_code, accessed, slots_after}
+use Rattle.kept.specs.Access.{parallel_by, in_no_bag, code_of, access_code, accessed}
 use Rattle.kept.specs.Holds.{HoldsFirst, HoldsOther, AccessIs, HoldsNext, ClearedRest, ClearedSame, RestKeptOn}
 use Rattle.kept.proofs.Lists.{either_way, those_no_more}
 use Rattle.kept.proofs.Sums.{sum_agree}
@@ -59,7 +60,7 @@ kept_at_most run (suc k) x =
     either_way (run.accesses k) (λ q. either_way (eqb x (run.location k)) (λ t. rw (q, t) (omega arith)) (λ t. rw (q, t) (omega arith))) (λ q. rw q (omega arith))
 
 -- An entry is named exactly if the access is reported.
-named_if_reported : (parallel : Entry → Bool) (e : Entry) (list : List Entry) → is_named (nobody_or (named parallel e list)) ≡ reported parallel e list
+named_if_reported : (parallel : Entry → Bool) (e : Entry) (list : List Entry) → is_some (named parallel e list) ≡ reported parallel e list
 unfolding named reported any first
 named_if_reported parallel e [] = refl
 named_if_reported parallel e (k ∷ list) = either_way (races parallel e k) (λ q. rw q) (λ q. rw q (named_if_reported parallel e list))
@@ -112,43 +113,48 @@ module _ (run : Run) (k : ℕ) (bs : List Bags) (x : ℕ) (e : Entry) (is : Acce
   named_visited = rw (is.told_by_bags, is.its_entry, is.its_location)
 
 -- What the code of an answer is, by the lists kept.
-code_of_answer : (run : Run) (k : ℕ) (bs : List Bags) (x : ℕ) (e : Entry) (slots' : Slots) (r : Accessed) → r ≡ accessed bs x e (kept run k) slots'
+code_of_answer : (run : Run) (k : ℕ) (bs : List Bags) (x : ℕ) (e : Entry) (r : Result Visited NotKept) → r ≡ accessed bs x e (kept run k)
     → code_of r ≡ access_code bs x e (kept run k)
-code_of_answer run k bs x e slots' r is = ap code_of is ∙ code_told bs x e (kept run k) slots'
+code_of_answer run k bs x e r is = ap code_of is ∙ code_told bs x e (kept run k)
 
 pub holds_next : (run : Run) → HoldsNext run
-holds_next run k bs x e p slots p' (Done slots' visits race) here is holds result left =
-    let both = holds_access bs x e (kept run k) p slots p' (Done slots' visits race) here holds result left in
+holds_next run k bs x e p slots p' slots' (Ok given) here is holds result left =
+    let both = holds_access bs x e (kept run k) p slots p' slots' (Ok given) here holds result left in
     let full = ltb piece_size (in_all piece_size (changed_at x (after (parallel_by bs) e) (kept run k))) in
-    let tests = done_by_code (any (in_no_bag bs) (kept run k x)) full (code_of_answer run k bs x e (slots_after bs x e p slots) (Done slots' visits race) both.0) in
-    let parts = done_told bs x e (kept run k) (slots_after bs x e p slots) slots' visits race both.0 in
+    let tests = done_by_code (any (in_no_bag bs) (kept run k x)) full (code_of_answer run k bs x e (Ok given) both.0) in
+    let parts = done_told bs x e (kept run k) given both.0 in
     let few = ltb-false piece_size (in_all piece_size (changed_at x (after (parallel_by bs) e) (kept run k))) tests.1 in
-    let told = parts.2 ∙ ap nobody_or (named_visited run k bs x e is) in (
+    let told = parts.1 ∙ named_visited run k bs x e is in (
       record {
         lists_held = record { room = both.1.room; held = λ y h. both.1.held y h ∙ lists_after run k bs x e is y };
         all_in_bags = sym (stray_visited run k bs x e is) ∙ tests.0;
         not_too_many = omega (arith, few, all_after run k bs x e is);
-        visits_told = parts.1 ∙ ap length (list_visited run k bs x e is);
+        visits_told = parts.0 ∙ ap length (list_visited run k bs x e is);
         race_told = told;
-        reported_told = ap is_named told ∙ named_if_reported (run.parallel k) (run.entry k) (visited run k);
+        reported_told = ap is_some told ∙ named_if_reported (run.parallel k) (run.entry k) (visited run k);
       },
-      rests_kept bs x e p slots p' (Done slots' visits race) here holds.room left,
+      rests_kept bs x e p slots p' slots' (Ok given) here holds.room left,
     )
-holds_next run k bs x e p slots p' InNoBag here is holds result left =
-    let both = holds_access bs x e (kept run k) p slots p' InNoBag here holds result left in
+holds_next run k bs x e p slots p' slots' (Err InNoBag) here is holds result left =
+    let both = holds_access bs x e (kept run k) p slots p' slots' (Err InNoBag) here holds result left in
     let full = ltb piece_size (in_all piece_size (changed_at x (after (parallel_by bs) e) (kept run k))) in
-    let stray = stray_by_code (any (in_no_bag bs) (kept run k x)) full (code_of_answer run k bs x e (slots_after bs x e p slots) InNoBag both.0) in
-    ((sym (stray_visited run k bs x e is) ∙ stray, both.1), rests_kept bs x e p slots p' InNoBag here holds.room left)
-holds_next run k bs x e p slots p' Full here is holds result left =
-    let both = holds_access bs x e (kept run k) p slots p' Full here holds result left in
+    let stray = stray_by_code (any (in_no_bag bs) (kept run k x)) full (code_of_answer run k bs x e (Err InNoBag) both.0) in
+    ((sym (stray_visited run k bs x e is) ∙ stray, both.1), rests_kept bs x e p slots p' slots' (Err InNoBag) here holds.room left)
+holds_next run k bs x e p slots p' slots' (Err Full) here is holds result left =
+    let both = holds_access bs x e (kept run k) p slots p' slots' (Err Full) here holds result left in
     let full = ltb piece_size (in_all piece_size (changed_at x (after (parallel_by bs) e) (kept run k))) in
-    let tests = full_by_code (any (in_no_bag bs) (kept run k x)) full (code_of_answer run k bs x e (slots_after bs x e p slots) Full both.0) in
+    let tests = full_by_code (any (in_no_bag bs) (kept run k x)) full (code_of_answer run k bs x e (Err Full) both.0) in
     let many = ltb-true piece_size (in_all piece_size (changed_at x (after (parallel_by bs) e) (kept run k))) tests.1 in (
       (sym (stray_visited run k bs x e is) ∙ tests.0, omega (arith, many, all_after run k bs x e is), both.1),
-      rests_kept bs x e p slots p' Full here holds.room left,
+      rests_kept bs x e p slots p' slots' (Err Full) here holds.room left,
     )
 
 -- ---- clearing
+
+-- What `clear_piece` leaves of zeros is a piece cleared.
+pub cleared_whole : (n : ℕ) (piece : List ℕ) → replicate n 0 ++ drop n piece ≡ cleared n piece
+unfolding cleared
+cleared_whole n piece = refl
 
 pub cleared_rest : ClearedRest
 unfolding cleared

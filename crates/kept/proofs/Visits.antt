@@ -2,19 +2,16 @@
 -- whole list. Assumes nothing.
 use Prim.Native.Nat.{ℕ, suc, ◌+◌, ◌-◌, ◌≤◌, ◌<◌}
 use mathlib.Core.Path.{◌≡◌, refl, sym, ap, ◌∙◌}
-use mathlib.Core.Bool.{Bool, true, false, cond, not, ◌||◌, and-false, or-false, true≢false}
+use mathlib.Core.Bool.{Bool, true, false, cond, not}
 use mathlib.Core.List.{List, [], ◌∷◌}
 use native.Mathlib.Omega.{arith}
-use lib.Dec.{eqb}
 use lib.ListN.{length, get_or}
 use borrow.Author.Tests.{not-true, not-false}
-use Rattle.locks.specs.Sets.{apart, within}
-use Rattle.bags.specs.declared.ask.Answer.{Answer}
-use Rattle.bags.specs.Bags.{Bags, in_p_bag, in_some_bag}
-use Rattle.bags.specs.Ask.{says_parallel}
+use Rattle.bags.specs.Bags.{Bags, in_some_bag}
 use Rattle.kept.specs.declared.Entry.{Entry}
 use Rattle.kept.specs.declared.Seen.{Seen}
-use Rattle.kept.specs.declared.Looked.TheVariants.{All, Stray}
+use Rattle.kept.specs.declared.NotKept.TheVariants.{InNoBag}
+use Rattle.std.specs.Prelude.{Ok, Err}
 use Rattle.kept.specs.declared.Weighed.{Weighed}
 use Rattle.kept.specs.declared.Weighed.TheVariants.{Stays, Goes, Beside}
 use Rattle.kept.specs.Lists.{any}
@@ -23,40 +20,7 @@ use Rattle.kept.specs.Pieces.{piece_size, Chain}
 use Rattle.kept.specs.Access.{parallel_by}
 use Rattle.kept.specs.Parts.{entry_of, nothing_seen, into, is_dropped, weighed_entry, seen_over, some_stray, looked_over}
 
--- ---- one entry
-
-module _ (bs : List Bags) (e : Entry) (at procedure locks : ℕ) (seen : Seen) {a w c : Bool} (apart-is : a ≡ apart locks e.locks)
-    (within-is : w ≡ within locks e.locks) (contains-is : c ≡ within e.locks locks) where
-  abbrev told : Seen
-  told = weighed_entry bs e at (entry_of procedure locks) seen
-
-  -- Where the sets share something and neither lies within the other, "parallel" plays no part.
-  pub stays_unasked : not ((a || w) || c) ≡ true → into Stays at seen ≡ told
-  unfolding weighed_entry races dropped omits
-  stays_unasked t = go a w c apart-is within-is contains-is t
-    where
-      go : (a w c : Bool) → a ≡ apart locks e.locks → w ≡ within locks e.locks → c ≡ within e.locks locks → not ((a || w) || c) ≡ true
-          → into Stays at seen ≡ told
-      go false false false p q s t = simp (sym p, sym q, sym s, and-false)
-      go true w c p q s t = absurd (true≢false (sym t))
-      go false true c p q s t = absurd (true≢false (sym t))
-      go false false true p q s t = absurd (true≢false (sym t))
-
-  -- Else the bags' answer tells.
-  module _ (answer : Answer) {parallel : Bool} (asked : says_parallel answer ≡ in_p_bag procedure bs) (said : parallel ≡ says_parallel answer) where
-    pub beside_asked : parallel ≡ true → into (Beside a w) at seen ≡ told
-    unfolding weighed_entry races dropped omits
-    beside_asked so = simp (sym asked ∙ sym said ∙ so, apart-is, within-is)
-
-    pub goes_asked : parallel ≡ false → c ≡ true → into Goes at seen ≡ told
-    unfolding weighed_entry races dropped omits
-    goes_asked not_so contains = simp (sym asked ∙ sym said ∙ not_so, sym contains-is ∙ contains)
-
-    pub stays_asked : parallel ≡ false → c ≡ false → into Stays at seen ≡ told
-    unfolding weighed_entry races dropped omits
-    stays_asked not_so contains = simp (sym asked ∙ sym said ∙ not_so, sym contains-is ∙ contains)
-
--- So what becomes of an entry says whether the rules drop it.
+-- What becomes of an entry says whether the rules drop it.
 pub dropped_told : (bs : List Bags) (e : Entry) (k : Entry) (v : Weighed) → ((at : ℕ) (seen : Seen) → into v at seen ≡ weighed_entry bs e at k seen)
     → is_dropped v ≡ dropped (parallel_by bs) e k
 unfolding weighed_entry
@@ -70,38 +34,18 @@ dropped_told bs e k v told = same v (dropped (parallel_by bs) e k) (ap (λ (s : 
     same (Beside racing omits) true q = absurd (omega (arith, q))
     same (Beside racing omits) false q = refl
 
+-- Only what goes is dropped.
+pub not_dropped : (v : Weighed) → (v ≡ Goes → ⊥) → is_dropped v ≡ false
+not_dropped Stays other = refl
+not_dropped Goes other = absurd (other refl)
+not_dropped (Beside racing omits) other = refl
+
 -- ---- the walk
 
 -- One visit more, and at most one dropped more.
 few_more : (b : Bool) (d v : ℕ) → d ≤ v → cond b (d + 1) d ≤ v + 1
 few_more true d v h = omega arith
 few_more false d v h = omega arith
-
--- One entry more, as it is counted.
-pub stays_in : (at : ℕ) (seen : Seen)
-    → record {
-      visits = seen.visits + 1;
-      race = seen.race;
-      omitted = seen.omitted;
-      dropped = seen.dropped;
-      last = at;
-      first = seen.first;
-      before = seen.before;
-    } ≡ into Stays at seen
-stays_in at seen = rw (or-false seen.omitted)
-
-pub goes_in : (at : ℕ) (seen : Seen) {first before : ℕ} → first ≡ cond (eqb seen.dropped 0) at seen.first
-    → before ≡ cond (eqb seen.dropped 0) seen.last seen.before
-    → record {
-      visits = seen.visits + 1;
-      race = seen.race;
-      omitted = seen.omitted;
-      dropped = seen.dropped + 1;
-      last = seen.last;
-      first = first;
-      before = before;
-    } ≡ into Goes at seen
-goes_in at seen p q = rw (or-false seen.omitted, p, q)
 
 -- An entry weighed is a visit.
 pub one_visit_more : (w : Weighed) (at : ℕ) (seen r : Seen) → r ≡ into w at seen → r.visits ≡ seen.visits + 1
@@ -137,12 +81,12 @@ module _ (bs : List Bags) (e : Entry) (links procedures sets whole : List ℕ) w
 
   -- An entry in no bag is the answer.
   pub walk_strays : (seen : Seen) (at : ℕ) {b : Bool} → Walking seen at → (at ≡ 0 → ⊥) → b ≡ in_some_bag (get_or procedures (at - 1) 0) bs → not b ≡ true
-      → Stray ≡ looked_over bs e procedures sets whole
+      → Err InNoBag ≡ looked_over bs e procedures sets whole
   unfolding Chain some_stray looked_over any
   walk_strays seen at {b} w ne is stray = go w.rest w.chain w.stray_ahead
     where
       go : (rest : List ℕ) → Chain links at rest → some_stray bs e procedures sets rest ≡ some_stray bs e procedures sets whole
-          → Stray ≡ looked_over bs e procedures sets whole
+          → Err InNoBag ≡ looked_over bs e procedures sets whole
       go [] chain ahead = absurd (ne chain)
       go (s ∷ ss) chain ahead =
           let here : at - 1 ≡ s = omega (arith, chain.0) in
@@ -174,11 +118,11 @@ module _ (bs : List Bags) (e : Entry) (links procedures sets whole : List ℕ) w
             stray_ahead = rw found at ahead;
           }
 
-  pub walk_ends : (seen : Seen) (at : ℕ) → Walking seen at → at ≡ 0 → All seen ≡ looked_over bs e procedures sets whole
+  pub walk_ends : (seen : Seen) (at : ℕ) → Walking seen at → at ≡ 0 → Ok seen ≡ looked_over bs e procedures sets whole
   unfolding Chain seen_over some_stray looked_over any
   walk_ends seen at w z = go w.rest w.chain w.same w.stray_ahead
     where
       go : (rest : List ℕ) → Chain links at rest → seen_over bs e procedures sets rest seen ≡ seen_over bs e procedures sets whole nothing_seen
-          → some_stray bs e procedures sets rest ≡ some_stray bs e procedures sets whole → All seen ≡ looked_over bs e procedures sets whole
-      go [] chain same ahead = rw (sym ahead) (ap All same)
+          → some_stray bs e procedures sets rest ≡ some_stray bs e procedures sets whole → Ok seen ≡ looked_over bs e procedures sets whole
+      go [] chain same ahead = rw (sym ahead) (ap Ok same)
       go (s ∷ ss) chain same ahead = absurd (omega (arith, chain.0))

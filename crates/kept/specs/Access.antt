@@ -1,13 +1,11 @@
 -- What an access gives, and what it leaves in the pieces.
-use Rattle.std.specs.Prelude.{ℕ, suc, ◌≡◌, Bool, true, false, cond, not, List, [], ◌∷◌, ◌++◌, eqb, ltb, length, set}
-use Rattle.std.proofs.Math.Option.{Option, none, some}
+use Rattle.std.specs.Prelude.{ℕ, suc, ◌≡◌, Bool, cond, not, List, [], ◌∷◌, ◌++◌, eqb, ltb, length, set, Result, Ok, Err}
 use Rattle.bags.specs.Bags.{Bags, in_p_bag, in_some_bag}
 use Rattle.kept.specs.declared.Entry.{Entry}
 use Rattle.kept.specs.declared.Slots.{Slots}
-use Rattle.kept.specs.declared.Named.{Named}
-use Rattle.kept.specs.declared.Named.TheVariants.{Nobody, With}
-use Rattle.kept.specs.declared.Accessed.{Accessed}
-use Rattle.kept.specs.declared.Accessed.TheVariants.{Done, InNoBag, Full}
+use Rattle.kept.specs.declared.Visited.{Visited}
+use Rattle.kept.specs.declared.NotKept.{NotKept}
+use Rattle.kept.specs.declared.NotKept.TheVariants.{InNoBag, Full}
 use Rattle.kept.specs.Lists.{any, those}
 use Rattle.kept.specs.Rules.{named, dropped, omits, after, Lists, changed_at, in_all}
 use Rattle.kept.specs.Pieces.{Pieces, piece_size, slots_of, slots_freed, entry_at, lists_in, LaidOut, RestKept}
@@ -19,20 +17,14 @@ parallel_by bs k = in_p_bag k.procedure.0 bs
 abbrev pub in_no_bag : List Bags → Entry → Bool
 in_no_bag bs k = not (in_some_bag k.procedure.0 bs)
 
--- The entry that is named, if one is; and whether one is.
-abbrev pub nobody_or : Option Entry → Named
-nobody_or none = Nobody
-nobody_or (some k) = With k
+-- The number of each refusal, and the code of each answer, 0 where nothing is refused.
+abbrev pub number_of : NotKept → ℕ
+number_of InNoBag = 12
+number_of Full = 13
 
-abbrev pub is_named : Named → Bool
-is_named Nobody = false
-is_named (With k) = true
-
--- The code of each answer, 0 where nothing is refused.
-abbrev pub code_of : Accessed → ℕ
-code_of (Done slots visits race) = 0
-code_of InNoBag = 12
-code_of Full = 13
+abbrev pub code_of : Result Visited NotKept → ℕ
+code_of (Ok visited) = 0
+code_of (Err why) = number_of why
 
 -- At an access e to location x, the bags and the lists being as they stand before it: one thing if an entry kept for the location has its procedure
 -- in no bag; then another if after the rules more than 4,096 entries would be kept in all; and else a third.
@@ -40,13 +32,13 @@ abbrev pub by_tests : {A : Type 0} → List Bags → ℕ → Entry → Lists →
 by_tests bs x e lists one another third =
     cond (any (in_no_bag bs) (lists x)) one (cond (ltb piece_size (in_all piece_size (changed_at x (after (parallel_by bs) e) lists))) another third)
 
--- Its code; and what it gives: a refusal, or the length of the list, the entry named, and which slots hold no entry afterwards.
+-- Its code; and what it gives: a refusal, or the length of the list and the entry named.
 abbrev pub access_code : List Bags → ℕ → Entry → Lists → ℕ
 access_code bs x e lists = by_tests bs x e lists 12 13 0
 
-unfoldable pub accessed : List Bags → ℕ → Entry → Lists → Slots → Accessed
-accessed bs x e lists slots' =
-    by_tests bs x e lists InNoBag Full (Done slots' (length (lists x)) (nobody_or (named (parallel_by bs) e (lists x))))
+unfoldable pub accessed : List Bags → ℕ → Entry → Lists → Result Visited NotKept
+accessed bs x e lists =
+    by_tests bs x e lists (Err InNoBag) (Err Full) (Ok (record { visits = length (lists x); race = named (parallel_by bs) e (lists x) }))
 
 -- One list of slots put in place of another.
 unfoldable pub place_at : ℕ → List ℕ → (ℕ → List ℕ) → ℕ → List ℕ
@@ -112,8 +104,7 @@ module _ (bs : List Bags) (x : ℕ) (e : Entry) (p : Pieces) (slots : Slots) whe
     pub procedures : p'.procedures ≡ stored e.procedure.0 p.procedures
     pub sets : p'.sets ≡ stored e.locks p.sets
 
-  -- A refusal leaves everything as it was.
-  abbrev pub AfterAccess : Pieces → Accessed → Type 0
-  AfterAccess p' (Done slots' visits race) = Accepted p'
-  AfterAccess p' InNoBag = p' ≡ p
-  AfterAccess p' Full = p' ≡ p
+  -- So it is then; and a refusal leaves everything as it was.
+  abbrev pub AfterAccess : Pieces → Slots → Result Visited NotKept → Type 0
+  AfterAccess p' slots' (Ok visited) = (slots' ≡ slots_after) × Accepted p'
+  AfterAccess p' slots' (Err why) = (p' ≡ p) × (slots' ≡ slots)

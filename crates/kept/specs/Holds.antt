@@ -1,17 +1,17 @@
--- The pieces through a run: what `empty_lists`, the accesses and `clear` come to. Each statement can be cited from proofs/Laws.antt, under the name in
+-- The pieces through a run: what `empty`, the accesses and `clear` come to. Each statement can be cited from proofs/Laws.antt, under the name in
 -- brackets.
-use Rattle.std.specs.Prelude.{ℕ, suc, ◌≤◌, ◌<◌, ◌≡◌, true, false, List, length}
+use Rattle.std.specs.Prelude.{ℕ, suc, ◌≤◌, ◌<◌, ◌≡◌, true, false, List, length, Option, is_some, Result, Ok, Err}
 use Rattle.bags.specs.Bags.{Bags}
 use Rattle.kept.specs.declared.Entry.{Entry}
 use Rattle.kept.specs.declared.Slots.{Slots}
-use Rattle.kept.specs.declared.Named.{Named}
-use Rattle.kept.specs.declared.Accessed.{Accessed}
-use Rattle.kept.specs.declared.Accessed.TheVariants.{Done, InNoBag, Full}
+use Rattle.kept.specs.declared.Visited.{Visited}
+use Rattle.kept.specs.declared.NotKept.{NotKept}
+use Rattle.kept.specs.declared.NotKept.TheVariants.{InNoBag, Full}
 use Rattle.kept.specs.Lists.{any}
 use Rattle.kept.specs.Rules.{reported, named, Lists, in_all}
 use Rattle.kept.specs.Theorem.{Run, kept, visited}
 use Rattle.kept.specs.Pieces.{Pieces, pieces, piece_size, lists_in, Fits, Room, RestKept, none_used, cleared}
-use Rattle.kept.specs.Access.{parallel_by, in_no_bag, nobody_or, is_named, accessed, slots_after, AfterAccess}
+use Rattle.kept.specs.Access.{parallel_by, in_no_bag, accessed, AfterAccess}
 
 -- The pieces hold these lists.
 pub record Holds (lists : Lists) (p : Pieces) (slots : Slots) : Type 0 where
@@ -45,27 +45,27 @@ module _ (run : Run) where
 
   -- The access k is not refused: no entry kept for its location has its procedure in no bag, and at most 4,096 entries are kept after it. The visits are
   -- the length of the list, and who is named is named by the rule.
-  pub record NotRefused (k : ℕ) (bs : List Bags) (p' : Pieces) (slots' : Slots) (visits : ℕ) (race : Named) : Type 0 where
+  pub record NotRefused (k : ℕ) (bs : List Bags) (p' : Pieces) (slots' : Slots) (visits : ℕ) (race : Option Entry) : Type 0 where
     pub lists_held : Holds (kept run (suc k)) p' slots'
     pub all_in_bags : any (in_no_bag bs) (visited run k) ≡ false
     pub not_too_many : in_all piece_size (kept run (suc k)) ≤ piece_size
     pub visits_told : visits ≡ length (visited run k)
-    pub race_told : race ≡ nobody_or (named (run.parallel k) (run.entry k) (visited run k))
-    pub reported_told : is_named race ≡ reported (run.parallel k) (run.entry k) (visited run k)
+    pub race_told : race ≡ named (run.parallel k) (run.entry k) (visited run k)
+    pub reported_told : is_some race ≡ reported (run.parallel k) (run.entry k) (visited run k)
 
   -- What each answer of `access` says, and what the pieces hold then.
-  abbrev pub HoldsAfter : ℕ → List Bags → Pieces → Slots → Accessed → Type 0
-  HoldsAfter k bs p' slots (Done slots' visits race) = NotRefused k bs p' slots' visits race
-  HoldsAfter k bs p' slots InNoBag = (any (in_no_bag bs) (visited run k) ≡ true) × Holds (kept run k) p' slots
-  HoldsAfter k bs p' slots Full =
-      (any (in_no_bag bs) (visited run k) ≡ false) × (piece_size < in_all piece_size (kept run (suc k))) × Holds (kept run k) p' slots
+  abbrev pub HoldsAfter : ℕ → List Bags → Pieces → Slots → Result Visited NotKept → Type 0
+  HoldsAfter k bs p' slots' (Ok visited) = NotRefused k bs p' slots' visited.visits visited.race
+  HoldsAfter k bs p' slots' (Err InNoBag) = (any (in_no_bag bs) (visited run k) ≡ true) × Holds (kept run k) p' slots'
+  HoldsAfter k bs p' slots' (Err Full) =
+      (any (in_no_bag bs) (visited run k) ≡ false) × (piece_size < in_all piece_size (kept run (suc k))) × Holds (kept run k) p' slots'
 
   -- So it is, by what `access` promises [holds-next].
   abbrev pub HoldsNext : Type 0
   HoldsNext =
-      (k : ℕ) (bs : List Bags) (x : ℕ) (e : Entry) (p : Pieces) (slots : Slots) (p' : Pieces) (r : Accessed) → x < piece_size → AccessIs k bs x e
-      → Holds (kept run k) p slots → r ≡ accessed bs x e (lists_in p) (slots_after bs x e p slots) → AfterAccess bs x e p slots p' r
-      → HoldsAfter k bs p' slots r × RestsKept p p'
+      (k : ℕ) (bs : List Bags) (x : ℕ) (e : Entry) (p : Pieces) (slots : Slots) (p' : Pieces) (slots' : Slots) (r : Result Visited NotKept)
+      → x < piece_size → AccessIs k bs x e → Holds (kept run k) p slots → r ≡ accessed bs x e (lists_in p)
+      → AfterAccess bs x e p slots p' slots' r → HoldsAfter k bs p' slots' r × RestsKept p p'
 
 -- Clearing keeps what lies past [cleared-rest]; it makes the same of pieces with the same rest [cleared-same]; and a rest that is kept twice is
 -- kept [rest-kept-on].

@@ -1,6 +1,5 @@
 -- Words for lists of anything: what a test says yes to, and who is in a list; and a sum.
-use Rattle.std.specs.Prelude.{ℕ, zero, suc, ◌+◌, ◌≡◌, Bool, true, false, cond, List, [], ◌∷◌, ◌⊎◌}
-use Rattle.std.proofs.Math.Option.{Option, none, some}
+use Rattle.std.specs.Prelude.{ℕ, zero, suc, ◌+◌, ◌≡◌, Bool, true, false, cond, List, [], ◌∷◌, ◌⊎◌, Option, None, Some}
 
 module _ {A : Type 0} where
   -- Does a test say yes to some of a list? To which first? Which are they all?
@@ -9,8 +8,8 @@ module _ {A : Type 0} where
   any test (a ∷ list) = cond (test a) true (any test list)
 
   unfoldable pub first : (A → Bool) → List A → Option A
-  first test [] = none
-  first test (a ∷ list) = cond (test a) (some a) (first test list)
+  first test [] = None
+  first test (a ∷ list) = cond (test a) (Some a) (first test list)
 
   unfoldable pub those : (A → Bool) → List A → List A
   those test [] = []

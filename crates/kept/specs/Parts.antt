@@ -1,15 +1,13 @@
 -- What the parts of an access do: the visits, the unlinking, the appending. A reader who wants only what `access` promises can skip this file.
-use Rattle.std.specs.Prelude.{ℕ, zero, suc, ◌+◌, ◌-◌, ◌≤◌, ◌<◌, ◌≡◌, Bool, true, false, cond, not, ◌&&◌, ◌||◌, List, [], ◌∷◌, ◌++◌, eqb, length, get_or, set}
+use Rattle.std.specs.Prelude.{ℕ, zero, suc, ◌+◌, ◌-◌, ◌≤◌, ◌<◌, ◌≡◌, Bool, true, false, cond, not, ◌&&◌, ◌||◌, List, [], ◌∷◌, ◌++◌, eqb, length, get_or, set, Option, None, Some, Result, Ok, Err}
 use Rattle.bags.specs.Bags.{Bags}
 use Rattle.kept.specs.declared.Entry.{Entry}
 use Rattle.kept.specs.declared.Slots.{Slots}
 use Rattle.kept.specs.declared.Seen.{Seen}
-use Rattle.kept.specs.declared.Looked.{Looked}
-use Rattle.kept.specs.declared.Looked.TheVariants.{All, Stray}
+use Rattle.kept.specs.declared.NotKept.{NotKept}
+use Rattle.kept.specs.declared.NotKept.TheVariants.{InNoBag}
 use Rattle.kept.specs.declared.Weighed.{Weighed}
 use Rattle.kept.specs.declared.Weighed.TheVariants.{Stays, Goes, Beside}
-use Rattle.kept.specs.declared.Named.{Named}
-use Rattle.kept.specs.declared.Named.TheVariants.{Nobody, With}
 use Rattle.kept.specs.Lists.{any, those}
 use Rattle.kept.specs.Rules.{races, dropped, omits}
 use Rattle.kept.specs.Pieces.{piece_size, entry_in, slots_of, slots_freed, Chain, LaidOut, RestKept}
@@ -56,8 +54,8 @@ module _ (bs : List Bags) (e : Entry) where
   unfoldable pub some_stray : List ℕ → List ℕ → List ℕ → Bool
   some_stray procedures sets ss = any (λ s. in_no_bag bs (entry_of (get_or procedures s 0) (get_or sets s 0))) ss
 
-  unfoldable pub looked_over : List ℕ → List ℕ → List ℕ → Looked
-  looked_over procedures sets ss = cond (some_stray procedures sets ss) Stray (All (seen_over procedures sets ss nothing_seen))
+  unfoldable pub looked_over : List ℕ → List ℕ → List ℕ → Result Seen NotKept
+  looked_over procedures sets ss = cond (some_stray procedures sets ss) (Err InNoBag) (Ok (seen_over procedures sets ss nothing_seen))
 
 -- The entry would find no slot.
 abbrev pub is_full : Seen → Slots → Bool
@@ -71,9 +69,9 @@ pub record Walkable (heads links : List ℕ) (x : ℕ) : Type 0 where
   pub few : length (slots_of heads links x) ≤ piece_size
 
 -- The entry that a link names.
-abbrev pub named_at : List ℕ → List ℕ → List ℕ → ℕ → Named
-named_at events procedures sets zero = Nobody
-named_at events procedures sets (suc s) = With (entry_in events procedures sets s)
+abbrev pub named_at : List ℕ → List ℕ → List ℕ → ℕ → Option Entry
+named_at events procedures sets zero = None
+named_at events procedures sets (suc s) = Some (entry_in events procedures sets s)
 
 -- What comes after slot `last - 1` of a location's list, or first in it where `last` is 0, is now what the link `to` leads to.
 abbrev pub heads_linked : ℕ → ℕ → ℕ → List ℕ → List ℕ

@@ -1,6 +1,5 @@
 -- Lock sets and what is kept, from any yes or no for "parallel". Nothing here knows of bytes, kinds of events or bags.
-use Rattle.std.specs.Prelude.{ℕ, Bool, cond, not, ◌&&◌, List, [], ◌∷◌, ◌++◌, eqb, length}
-use Rattle.std.proofs.Math.Option.{Option}
+use Rattle.std.specs.Prelude.{ℕ, Bool, cond, not, ◌&&◌, List, [], ◌∷◌, ◌++◌, eqb, length, Option}
 use Rattle.locks.specs.Sets.{apart, within}
 use Rattle.kept.specs.declared.Entry.{Entry}
 use Rattle.kept.specs.Lists.{any, first, those, sum_below}

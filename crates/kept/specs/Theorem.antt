@@ -1,7 +1,6 @@
 -- The theorem behind demands 2 and 3: what is kept is enough, and little. It is about every sequence of accesses and every yes or no that obeys the two
 -- laws of 002; nothing else is known of it. Its proof can be cited from proofs/Laws.antt as `kept_suffices`.
-use Rattle.std.specs.Prelude.{ℕ, zero, suc, ◌≤◌, ◌<◌, ◌≡◌, ◌↔◌, Bool, true, false, cond, ◌&&◌, List, [], ◌∷◌, map, eqb, length}
-use Rattle.std.proofs.Math.Option.{some}
+use Rattle.std.specs.Prelude.{ℕ, zero, suc, ◌≤◌, ◌<◌, ◌≡◌, ◌↔◌, Bool, true, false, cond, ◌&&◌, List, [], ◌∷◌, map, eqb, length, Some}
 use Rattle.locks.specs.Sets.{apart}
 use Rattle.bags.specs.YesOrNo.{YesOrNo}
 use Rattle.kept.specs.declared.Entry.{Entry}
@@ -69,9 +68,9 @@ module _ (run : Run) where
     pub reported_exactly : (j : ℕ) → run.accesses j ≡ true
         → (reported (run.parallel j) (run.entry j) (visited j) ≡ true) ↔ ((i : ℕ) × Race i j)
     -- The entry named is the entry of such an access, and the lowest-numbered of those kept that race.
-    pub named_races : (j : ℕ) (k : Entry) → run.accesses j ≡ true → named (run.parallel j) (run.entry j) (visited j) ≡ some k
+    pub named_races : (j : ℕ) (k : Entry) → run.accesses j ≡ true → named (run.parallel j) (run.entry j) (visited j) ≡ Some k
         → (i : ℕ) × Race i j × (k ≡ run.entry i)
-    pub named_lowest : (j : ℕ) (k l : Entry) → run.accesses j ≡ true → named (run.parallel j) (run.entry j) (visited j) ≡ some k
+    pub named_lowest : (j : ℕ) (k l : Entry) → run.accesses j ≡ true → named (run.parallel j) (run.entry j) (visited j) ≡ Some k
         → In l (visited j) → races (run.parallel j) (run.entry j) l ≡ true → k.event.0 ≤ l.event.0
     -- Each entry kept for a location is that of an earlier access to it; they stand in event order; no two have the same lock set.
     pub kept_accesses : (k x : ℕ) (l : Entry) → In l (kept k x) → (i : ℕ) × Earlier i k x × (l ≡ run.entry i)

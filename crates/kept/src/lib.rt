@@ -1,20 +1,20 @@
 // The entries kept for each location, as lists in lent memory, and what an access makes of them. Nothing here knows of bytes or
 // kinds of events; of the bags it knows only what they answer about a procedure.
 //
-// `empty_lists` sets up the lists, `access` brings one access in, and `clear` leaves the pieces zero.
+// The lists are a value, `KeptLists`: `empty` sets them up, `access` brings one access in, and `clear` leaves the pieces zero.
 #![tactic(auto)]
 
-ghost use Rattle.std.specs.Prelude.{◌≡◌, false, cond, ℕ, ◌≤◌, ◌<◌, ◌+◌, ◌-◌, [], ◌∷◌, length, set};
-ghost use Rattle.bags.specs.Runs.{bags_in, Room as BagsRoom};
-ghost use Rattle.bags.specs.Ask.{says_parallel};
+ghost use Rattle.std.specs.Prelude.{◌≡◌, false, ℕ, ◌≤◌, ◌<◌, ◌+◌, ◌-◌, [], ◌∷◌, ◌++◌, length, set, drop, replicate};
+ghost use Rattle.bags.specs.Lent.{InRoom, bags_of};
 ghost use Rattle.kept.specs.declared.Seen.{Seen};
 ghost use Rattle.kept.specs.Rules.{dropped};
-ghost use Rattle.kept.specs.Pieces.{piece_size, pieces, slots_of, slots_freed, lists_in, LaidOut, Fits, Room, none_used, cleared};
-ghost use Rattle.kept.specs.Access.{parallel_by, code_of, access_code, accessed, slots_after, Accepted, AfterAccess};
-ghost use Rattle.kept.specs.Parts.{entry_of, nothing_seen, into, is_dropped, weighed_entry, seen_over, looked_over, is_full, Walkable, named_at};
+ghost use Rattle.kept.specs.Pieces.{piece_size, slots_of, slots_freed, lists_in, LaidOut, Fits, Room, none_used, cleared};
+ghost use Rattle.kept.specs.Lent.{pieces_of, SameLoans, entries_kept};
+ghost use Rattle.kept.specs.Access.{parallel_by, code_of, access_code, accessed, number_of, slots_after, Accepted, AfterAccess};
+ghost use Rattle.kept.specs.Parts.{entry_of, nothing_seen, into, weighed_entry, seen_over, looked_over, is_full, Walkable, named_at};
 ghost use Rattle.kept.specs.Parts.{heads_linked, links_linked, drops_by, how_many, FirstDropped, Pruned, slot_for, slots_then};
 
-use bags::ask::{Answer, Pairs, ProcedureNumber};
+use bags::ask::{Answer, ProcedureNumber, Runs};
 use locks::{apart, within};
 use trace::EventNumber;
 
@@ -22,7 +22,7 @@ use trace::EventNumber;
 const PIECE: usize = 4096;
 
 // An access that may be kept: the event's number, the procedure that makes it, and its lock set.
-#[derive(Clone, Copy)]
+#[derive(Clone, Copy, Debug, PartialEq, Eq)]
 pub struct Entry {
     pub event: EventNumber,
     pub procedure: ProcedureNumber,
@@ -30,25 +30,37 @@ pub struct Entry {
 }
 
 // Which slots hold no entry: `freed` links those whose entry was dropped, and from `used` on they never held one.
-#[derive(Clone, Copy)]
+#[derive(Clone, Copy, Debug, Default, PartialEq, Eq)]
 pub struct Slots {
     pub freed: u32,
     pub used: usize,
 }
 
-// The kept entry that is named: the one that an access races with.
-#[derive(Clone, Copy)]
-pub enum Named {
-    Nobody,
-    With(Entry),
+// The lists of all locations in five pieces, as C lends them: the heads by location, and by slot the link to the next slot and the
+// entry. A link is 0 at the end of a list, so that lists in pieces of zeros are empty, and else the next slot and one more. The lists
+// are in `Room` from `empty` on, and the pieces may hold anything before.
+#[derive(Drop)]
+pub struct KeptLists<'a> {
+    pub heads: &'a mut [u32],
+    pub links: &'a mut [u32],
+    pub events: &'a mut [u32],
+    pub procedures: &'a mut [u32],
+    pub sets: &'a mut [u64],
+    pub slots: Slots,
 }
 
-// What an access gives: which slots hold no entry now, the visits and who is named; or a refusal.
-#[derive(Clone, Copy)]
-pub enum Accessed {
-    Done(Slots, u32, Named),
-    InNoBag,
-    Full,
+// What an access gives: the visits, and the kept entry that is named, the one that it races with.
+#[derive(Clone, Copy, Debug, PartialEq, Eq)]
+pub struct Visited {
+    pub visits: u32,
+    pub race: Option<Entry>,
+}
+
+// Why an access is refused.
+#[derive(Clone, Copy, Debug, PartialEq, Eq)]
+pub enum NotKept {
+    InNoBag = 12,
+    Full = 13,
 }
 
 // What the visits to a list have found so far: how many there were, the first entry that races, whether some entry leaves the access
@@ -65,20 +77,22 @@ struct Seen {
     before: usize,
 }
 
-// What the visits to a whole list found, or that the procedure of some entry is in no bag.
-#[derive(Clone, Copy)]
-enum Looked {
-    All(Seen),
-    Stray,
-}
-
 // What becomes of an entry that is visited: it stays; it is dropped; or it is parallel with the access, and so stays, and may race with
 // it, and may leave it out.
 #[derive(Clone, Copy)]
 enum Weighed {
     Stays,
     Goes,
-    Beside(bool, bool),
+    Beside { races: bool, omits: bool },
+}
+
+impl NotKept {
+    // The code that stands for the refusal.
+    pub fn code(self) -> u32
+        ensures { result ≡ number_of self }
+    {
+        self as u32
+    }
 }
 
 impl Seen {
@@ -106,31 +120,31 @@ impl Seen {
         let visits = self.visits + 1;
         match entry {
             Weighed::Stays => Seen {
-                visits: visits,
-                race: self.race,
-                omitted: self.omitted,
-                dropped: self.dropped,
+                visits,
                 last: at,
-                first: self.first,
-                before: self.before,
+                ..self
             },
             Weighed::Goes => Seen {
-                visits: visits,
-                race: self.race,
-                omitted: self.omitted,
+                visits,
                 dropped: self.dropped + 1,
-                last: self.last,
-                first: pick(self.dropped == 0, at, self.first),
-                before: pick(self.dropped == 0, self.last, self.before),
+                first: if self.dropped == 0 { at } else { self.first },
+                before: if self.dropped == 0 {
+                    self.last
+                } else {
+                    self.before
+                },
+                ..self
             },
-            Weighed::Beside(races, omits) => Seen {
-                visits: visits,
-                race: pick(races & (self.race == 0), at, self.race),
+            Weighed::Beside { races, omits } => Seen {
+                visits,
+                race: if races & (self.race == 0) {
+                    at
+                } else {
+                    self.race
+                },
                 omitted: self.omitted | omits,
-                dropped: self.dropped,
                 last: at,
-                first: self.first,
-                before: self.before,
+                ..self
             },
         }
     }
@@ -143,262 +157,35 @@ impl Seen {
     }
 }
 
-// The first number if so, else the second.
-fn pick(so: bool, first: usize, second: usize) -> usize
-    ensures { result ≡ cond so first second }
-{
-    if so { first } else { second }
-}
-
-// A link, in the width of a place.
-fn wide(link: u32) -> usize
-    ensures { result ≡ link }
-{
-    link as usize
-}
-
-// There are 4,096 empty lists. What the pieces held before does not matter.
-pub fn empty_lists(heads: &mut [u32]) -> Slots
-    requires { piece_size ≤ length heads.old }
-    ensures result { result ≡ none_used }
-    ensures heads { heads.new ≡ cleared piece_size heads.old }
-{
-    clear_numbers(heads);
-    Slots { freed: 0, used: 0 }
-}
-
-// The used part of each piece is zero, and the rest is as it was.
-pub fn clear(
-    heads: &mut [u32],
-    links: &mut [u32],
-    events: &mut [u32],
-    procedures: &mut [u32],
-    sets: &mut [u64],
-)
-    requires { Fits (pieces heads.old links.old events.old procedures.old sets.old) }
-    ensures heads { heads.new ≡ cleared piece_size heads.old }
-    ensures links { links.new ≡ cleared piece_size links.old }
-    ensures events { events.new ≡ cleared piece_size events.old }
-    ensures procedures { procedures.new ≡ cleared piece_size procedures.old }
-    ensures sets { sets.new ≡ cleared piece_size sets.old }
-{
-    clear_numbers(heads);
-    clear_numbers(links);
-    clear_numbers(events);
-    clear_numbers(procedures);
-    clear_sets(sets);
-}
-
-// The same of one piece of numbers, and of one piece of lock sets.
-pub fn clear_numbers(piece: &mut [u32])
-    requires { piece_size ≤ length piece.old }
-    ensures { piece.new ≡ cleared piece_size piece.old }
-{
-    let mut i = 0;
-    while i < PIECE {
-        piece[i] = 0;
-        i += 1;
-    }
-}
-
-pub fn clear_sets(piece: &mut [u64])
-    requires { piece_size ≤ length piece.old }
-    ensures { piece.new ≡ cleared piece_size piece.old }
-{
-    let mut slot = 0;
-    while slot < PIECE {
-        piece[slot] = 0;
-        slot += 1;
-    }
-}
-
-// An access to a location, the bags being as they stand before it. The list is only read until the refusals are ruled out; then the
-// pieces change.
-pub fn access(
-    heads: &mut [u32],
-    links: &mut [u32],
-    events: &mut [u32],
-    procedures: &mut [u32],
-    sets: &mut [u64],
-    slots: Slots,
-    location: u32,
-    entry: Entry,
-    pairs: Pairs,
-    starts: &[u32],
-    joins: &[u32],
-) -> Accessed
-    requires bags_room { BagsRoom starts.now joins.now pairs }
-    requires room { Room (pieces heads.old links.old events.old procedures.old sets.old) slots }
-    requires location_lt_piece_size { location < piece_size }
-    ensures result { result ≡ accessed (bags_in starts.now joins.now pairs) location entry
-        (lists_in (pieces heads.old links.old events.old procedures.old sets.old))
-        (slots_after (bags_in starts.now joins.now pairs) location entry
-        (pieces heads.old links.old events.old procedures.old sets.old) slots) }
-    ensures code { code_of result ≡ access_code (bags_in starts.now joins.now pairs) location entry
-        (lists_in (pieces heads.old links.old events.old procedures.old sets.old)) }
-    ensures pieces { AfterAccess (bags_in starts.now joins.now pairs) location entry
-        (pieces heads.old links.old events.old procedures.old sets.old) slots
-        (pieces heads.new links.new events.new procedures.new sets.new) result }
-{
-    let list = location as usize;
-    let first = wide(heads[list]);
-    if first != 0 {
-        if links[first - 1] == 0 {
-            return meet_one(
-                heads, links, events, procedures, sets, slots, list, first, entry, pairs, starts,
-                joins,
-            );
-        }
-    }
-    match look(
-        heads, links, procedures, sets, list, entry, pairs, starts, joins,
-    ) {
-        Looked::Stray => Accessed::InNoBag,
-        Looked::All(seen) => {
-            if seen.is_full(slots) {
-                return Accessed::Full;
-            }
-            let race = named_at(seen.race, events, procedures, sets);
-            let then = change(
-                heads, links, events, procedures, sets, slots, list, entry, seen, pairs, starts,
-                joins,
-            );
-            Accessed::Done(then, seen.visits, race)
+impl Slots {
+    // The slot for the next entry is the one freed last, or else the first never used.
+    fn next(self) -> usize
+        ensures { result ≡ slot_for self }
+    {
+        if self.freed == 0 {
+            self.used
+        } else {
+            self.freed as usize - 1
         }
     }
 }
 
-// The same where the list has one entry: if it is dropped, the new one takes its slot. Most lists are as short as that.
-fn meet_one(
-    heads: &mut [u32],
-    links: &mut [u32],
-    events: &mut [u32],
-    procedures: &mut [u32],
-    sets: &mut [u64],
-    slots: Slots,
-    location: usize,
-    first: usize,
-    entry: Entry,
-    pairs: Pairs,
-    starts: &[u32],
-    joins: &[u32],
-) -> Accessed
-    requires bags_room { BagsRoom starts.now joins.now pairs }
-    requires room { Room (pieces heads.old links.old events.old procedures.old sets.old) slots }
-    requires location_lt_piece_size { location < piece_size }
-    requires first_nonzero { 0 < first }
-    requires location_value { slots_of heads.old links.old location ≡ (first - 1) ∷ [] }
-    ensures result { result ≡ accessed (bags_in starts.now joins.now pairs) location entry
-        (lists_in (pieces heads.old links.old events.old procedures.old sets.old))
-        (slots_after (bags_in starts.now joins.now pairs) location entry
-        (pieces heads.old links.old events.old procedures.old sets.old) slots) }
-    ensures pieces { AfterAccess (bags_in starts.now joins.now pairs) location entry
-        (pieces heads.old links.old events.old procedures.old sets.old) slots
-        (pieces heads.new links.new events.new procedures.new sets.new) result }
+// The used part of a piece is zero, and the rest is as it was.
+pub fn clear_piece<T: Copy>(piece: &mut [T], zero: T)
+    requires { piece_size ≤ length piece.old }
+    ensures { piece.new ≡ replicate piece_size zero ++ drop piece_size piece.old }
 {
-    let slot = first - 1;
-    let procedure = ProcedureNumber(procedures[slot]);
-    if !pairs.in_some_bag(procedure) {
-        return Accessed::InNoBag;
+    for at in 0..PIECE {
+        piece[at] = zero;
     }
-    let weighed = weigh(procedure, sets[slot], entry, pairs, starts, joins);
-    let none = Seen::nothing();
-    let seen = none.and(first, weighed);
-    if seen.dropped != 0 {
-        store(events, procedures, sets, slot, entry);
-        return Accessed::Done(slots, seen.visits, Named::Nobody);
-    }
-    let race = named_at(seen.race, events, procedures, sets);
-    if seen.omitted {
-        return Accessed::Done(slots, seen.visits, race);
-    }
-    if seen.is_full(slots) {
-        return Accessed::Full;
-    }
-    let then = append(
-        heads, links, events, procedures, sets, location, seen.last, entry, slots,
-    );
-    Accessed::Done(then, seen.visits, race)
-}
-
-// The entry is put in a slot.
-fn store(events: &mut [u32], procedures: &mut [u32], sets: &mut [u64], slot: usize, entry: Entry)
-    requires slot_lt_piece_size { slot < piece_size }
-    requires piece_size_in_bounds { piece_size ≤ length events.old }
-    requires piece_size_in_bounds_2 { piece_size ≤ length procedures.old }
-    requires piece_size_in_bounds_3 { piece_size ≤ length sets.old }
-    ensures events { events.new ≡ set events.old slot entry.event.0 }
-    ensures procedures { procedures.new ≡ set procedures.old slot entry.procedure.0 }
-    ensures sets { sets.new ≡ set sets.old slot entry.locks }
-{
-    events[slot] = entry.event.0;
-    procedures[slot] = entry.procedure.0;
-    sets[slot] = entry.locks;
-}
-
-// The dropped go, and the entry comes unless it is left out. Gives which slots hold no entry then.
-fn change(
-    heads: &mut [u32],
-    links: &mut [u32],
-    events: &mut [u32],
-    procedures: &mut [u32],
-    sets: &mut [u64],
-    slots: Slots,
-    location: usize,
-    entry: Entry,
-    seen: Seen,
-    pairs: Pairs,
-    starts: &[u32],
-    joins: &[u32],
-) -> Slots
-    requires bags_room { BagsRoom starts.now joins.now pairs }
-    requires room { Room (pieces heads.old links.old events.old procedures.old sets.old) slots }
-    requires location_lt_piece_size { location < piece_size }
-    requires seen_value { seen ≡ seen_over (bags_in starts.now joins.now pairs) entry procedures.old sets.old
-        (slots_of heads.old links.old location) nothing_seen }
-    requires slots_value { is_full seen slots ≡ false }
-    ensures result { result ≡ slots_after (bags_in starts.now joins.now pairs) location entry
-        (pieces heads.old links.old events.old procedures.old sets.old) slots }
-    ensures pieces { Accepted (bags_in starts.now joins.now pairs) location entry
-        (pieces heads.old links.old events.old procedures.old sets.old) slots
-        (pieces heads.new links.new events.new procedures.new sets.new) }
-{
-    let pruned = prune(
-        heads,
-        links,
-        procedures,
-        sets,
-        location,
-        entry,
-        slots,
-        seen.dropped,
-        seen.first,
-        seen.before,
-        pairs,
-        starts,
-        joins,
-    );
-    if seen.omitted {
-        return pruned;
-    }
-    append(
-        heads, links, events, procedures, sets, location, seen.last, entry, pruned,
-    )
 }
 
 // What becomes of the entry of that procedure, with those locks. The bags are asked only where the answer matters.
 #[tactic(auto, unfolding(crate::specs::Parts::weighed_entry, crate::specs::Rules::races, crate::specs::Rules::dropped, crate::specs::Rules::omits))]
-fn weigh(
-    procedure: ProcedureNumber,
-    locks: u64,
-    entry: Entry,
-    pairs: Pairs,
-    starts: &[u32],
-    joins: &[u32],
-) -> Weighed
-    requires { BagsRoom starts.now joins.now pairs }
+fn weigh(procedure: ProcedureNumber, locks: u64, entry: Entry, runs: &Runs<'_>) -> Weighed
+    requires { InRoom runs.now }
     ensures { (at : ℕ) (seen : Seen)
-        → into result at seen ≡ weighed_entry (bags_in starts.now joins.now pairs) entry at (entry_of procedure.0 locks) seen }
+        → into result at seen ≡ weighed_entry (bags_of runs.now) entry at (entry_of procedure.0 locks) seen }
 {
     let ours = entry.locks;
     let nothing_in_common = apart(locks, ours);
@@ -407,8 +194,11 @@ fn weigh(
     if !(nothing_in_common | lies_within | contains) {
         return Weighed::Stays;
     }
-    if says_parallel(pairs.ask(starts, joins, procedure)) {
-        return Weighed::Beside(nothing_in_common, lies_within);
+    if runs.ask(procedure) == Answer::InParallel {
+        return Weighed::Beside {
+            races: nothing_in_common,
+            omits: lies_within,
+        };
     }
     if contains {
         return Weighed::Goes;
@@ -416,235 +206,310 @@ fn weigh(
     Weighed::Stays
 }
 
-// Does the answer say: in parallel?
-fn says_parallel(answer: Answer) -> bool
-    ensures { result ≡ says_parallel answer }
-{
-    match answer {
-        Answer::InSeries => false,
-        Answer::InParallel => true,
-        Answer::InNoBag => false,
+impl KeptLists<'_> {
+    // There are 4,096 empty lists. What the pieces held before does not matter.
+    #[tactic(auto, unfolding(crate::specs::Pieces::cleared))]
+    pub fn empty(&mut self)
+        requires { piece_size ≤ length self.old.heads.now }
+        ensures slots { self.new.slots ≡ none_used }
+        ensures heads { self.new.heads.now ≡ cleared piece_size self.old.heads.now }
+        ensures links { self.new.links.now ≡ self.old.links.now }
+        ensures entries { entries_kept self.old self.new }
+        ensures lent { SameLoans self.old self.new }
+    {
+        clear_piece(self.heads, 0);
+        self.slots = Slots { freed: 0, used: 0 };
     }
-}
 
-// Every entry of a location's list is visited, unless one is found whose procedure is in no bag; nothing changes.
-fn look(
-    heads: &[u32],
-    links: &[u32],
-    procedures: &[u32],
-    sets: &[u64],
-    location: usize,
-    entry: Entry,
-    pairs: Pairs,
-    starts: &[u32],
-    joins: &[u32],
-) -> Looked
-    requires bags_room { BagsRoom starts.now joins.now pairs }
-    requires walkable { Walkable heads.now links.now location }
-    requires piece_size_in_bounds { piece_size ≤ length procedures.now }
-    requires piece_size_in_bounds_2 { piece_size ≤ length sets.now }
-    ensures { result ≡ looked_over (bags_in starts.now joins.now pairs) entry procedures.now sets.now
-        (slots_of heads.now links.now location) }
-{
-    let mut seen = Seen::nothing();
-    let mut at = wide(heads[location]);
-    while at != 0 {
-        let slot = at - 1;
-        let procedure = ProcedureNumber(procedures[slot]);
-        if !pairs.in_some_bag(procedure) {
-            return Looked::Stray;
+    // The used part of each piece is zero, and the rest is as it was.
+    #[tactic(auto, unfolding(crate::specs::Pieces::cleared))]
+    pub fn clear(&mut self)
+        requires { Fits (pieces_of self.old) }
+        ensures heads { self.new.heads.now ≡ cleared piece_size self.old.heads.now }
+        ensures links { self.new.links.now ≡ cleared piece_size self.old.links.now }
+        ensures events { self.new.events.now ≡ cleared piece_size self.old.events.now }
+        ensures procedures { self.new.procedures.now ≡ cleared piece_size self.old.procedures.now }
+        ensures sets { self.new.sets.now ≡ cleared piece_size self.old.sets.now }
+        ensures slots { self.new.slots ≡ self.old.slots }
+        ensures lent { SameLoans self.old self.new }
+    {
+        clear_piece(self.heads, 0);
+        clear_piece(self.links, 0);
+        clear_piece(self.events, 0);
+        clear_piece(self.procedures, 0);
+        clear_piece(self.sets, 0);
+    }
+
+    // An access to a location, the bags being as they stand before it. The list is only read until the refusals are ruled out; then
+    // the pieces change.
+    pub fn access(
+        &mut self,
+        location: u32,
+        entry: Entry,
+        runs: &Runs<'_>,
+    ) -> Result<Visited, NotKept>
+        requires bags_room { InRoom runs.now }
+        requires room { Room (pieces_of self.old) self.old.slots }
+        requires location_lt_piece_size { location < piece_size }
+        ensures result { result ≡ accessed (bags_of runs.now) location entry (lists_in (pieces_of self.old)) }
+        ensures code { code_of result ≡ access_code (bags_of runs.now) location entry (lists_in (pieces_of self.old)) }
+        ensures pieces { AfterAccess (bags_of runs.now) location entry (pieces_of self.old) self.old.slots
+            (pieces_of self.new) self.new.slots result }
+        ensures lent { SameLoans self.old self.new }
+    {
+        let list = location as usize;
+        let first = self.heads[list] as usize;
+        if first != 0 {
+            if self.links[first - 1] == 0 {
+                return self.meet_one(list, first, entry, runs);
+            }
         }
-        let weighed = weigh(procedure, sets[slot], entry, pairs, starts, joins);
-        seen = seen.and(at, weighed);
-        at = wide(links[slot]);
+        let seen = self.look(list, entry, runs)?;
+        if seen.is_full(self.slots) {
+            return Err(NotKept::Full);
+        }
+        let race = self.named_at(seen.race);
+        self.change(list, entry, seen, runs);
+        Ok(Visited {
+            visits: seen.visits,
+            race,
+        })
     }
-    Looked::All(seen)
-}
 
-// The entry that a link leads to.
-fn named_at(at: usize, events: &[u32], procedures: &[u32], sets: &[u64]) -> Named
-    requires at_in_bounds { at ≤ length events.now }
-    requires at_in_bounds_2 { at ≤ length procedures.now }
-    requires at_in_bounds_3 { at ≤ length sets.now }
-    ensures { result ≡ named_at events.now procedures.now sets.now at }
-{
-    if at == 0 {
-        return Named::Nobody;
+    // The same where the list has one entry: if it is dropped, the new one takes its slot. Most lists are as short as that.
+    fn meet_one(
+        &mut self,
+        location: usize,
+        first: usize,
+        entry: Entry,
+        runs: &Runs<'_>,
+    ) -> Result<Visited, NotKept>
+        requires bags_room { InRoom runs.now }
+        requires room { Room (pieces_of self.old) self.old.slots }
+        requires location_lt_piece_size { location < piece_size }
+        requires first_nonzero { 0 < first }
+        requires location_value { slots_of self.old.heads.now self.old.links.now location ≡ (first - 1) ∷ [] }
+        ensures result { result ≡ accessed (bags_of runs.now) location entry (lists_in (pieces_of self.old)) }
+        ensures pieces { AfterAccess (bags_of runs.now) location entry (pieces_of self.old) self.old.slots
+            (pieces_of self.new) self.new.slots result }
+        ensures lent { SameLoans self.old self.new }
+    {
+        let slot = first - 1;
+        let procedure = ProcedureNumber(self.procedures[slot]);
+        if !runs.in_some_bag(procedure) {
+            return Err(NotKept::InNoBag);
+        }
+        let weighed = weigh(procedure, self.sets[slot], entry, runs);
+        let none = Seen::nothing();
+        let seen = none.and(first, weighed);
+        let visits = seen.visits;
+        if seen.dropped != 0 {
+            self.store(slot, entry);
+            return Ok(Visited { visits, race: None });
+        }
+        let race = self.named_at(seen.race);
+        if seen.omitted {
+            return Ok(Visited { visits, race });
+        }
+        if seen.is_full(self.slots) {
+            return Err(NotKept::Full);
+        }
+        self.append(location, seen.last, entry);
+        Ok(Visited { visits, race })
     }
-    let slot = at - 1;
-    Named::With(Entry {
-        event: EventNumber(events[slot]),
-        procedure: ProcedureNumber(procedures[slot]),
-        locks: sets[slot],
-    })
-}
 
-// What comes after the entry that `last` names, or first in the location's list where it names none, is now what `to` leads to.
-fn relink(heads: &mut [u32], links: &mut [u32], location: usize, last: usize, to: u32)
-    requires location_in_bounds { location < length heads.old }
-    requires last_in_bounds { last ≤ length links.old }
-    ensures heads { heads.new ≡ heads_linked last location to heads.old }
-    ensures links { links.new ≡ links_linked last to links.old }
-{
-    if last == 0 {
-        heads[location] = to;
-    } else {
-        links[last - 1] = to;
+    // The entry is put in a slot.
+    fn store(&mut self, slot: usize, entry: Entry)
+        requires slot_lt_piece_size { slot < piece_size }
+        requires piece_size_in_bounds { piece_size ≤ length self.old.events.now }
+        requires piece_size_in_bounds_2 { piece_size ≤ length self.old.procedures.now }
+        requires piece_size_in_bounds_3 { piece_size ≤ length self.old.sets.now }
+        ensures heads { self.new.heads.now ≡ self.old.heads.now }
+        ensures links { self.new.links.now ≡ self.old.links.now }
+        ensures events { self.new.events.now ≡ set self.old.events.now slot entry.event.0 }
+        ensures procedures { self.new.procedures.now ≡ set self.old.procedures.now slot entry.procedure.0 }
+        ensures sets { self.new.sets.now ≡ set self.old.sets.now slot entry.locks }
+        ensures slots { self.new.slots ≡ self.old.slots }
+        ensures lent { SameLoans self.old self.new }
+    {
+        self.events[slot] = entry.event.0;
+        self.procedures[slot] = entry.procedure.0;
+        self.sets[slot] = entry.locks;
     }
-}
 
-// Is it dropped?
-fn goes(entry: Weighed) -> bool
-    ensures { result ≡ is_dropped entry }
-{
-    match entry {
-        Weighed::Stays => false,
-        Weighed::Goes => true,
-        Weighed::Beside(_, _) => false,
+    // The dropped go, and the entry comes unless it is left out.
+    fn change(&mut self, location: usize, entry: Entry, seen: Seen, runs: &Runs<'_>)
+        requires bags_room { InRoom runs.now }
+        requires room { Room (pieces_of self.old) self.old.slots }
+        requires location_lt_piece_size { location < piece_size }
+        requires seen_value { seen ≡ seen_over (bags_of runs.now) entry self.old.procedures.now self.old.sets.now
+            (slots_of self.old.heads.now self.old.links.now location) nothing_seen }
+        requires slots_value { is_full seen self.old.slots ≡ false }
+        ensures slots { self.new.slots ≡ slots_after (bags_of runs.now) location entry (pieces_of self.old) self.old.slots }
+        ensures pieces { Accepted (bags_of runs.now) location entry (pieces_of self.old) self.old.slots (pieces_of self.new) }
+        ensures lent { SameLoans self.old self.new }
+    {
+        self.prune(location, entry, seen, runs);
+        if !seen.omitted {
+            self.append(location, seen.last, entry);
+        }
     }
-}
 
-// Is the entry of that procedure, with those locks, dropped?
-fn drops(
-    procedure: ProcedureNumber,
-    locks: u64,
-    entry: Entry,
-    pairs: Pairs,
-    starts: &[u32],
-    joins: &[u32],
-) -> bool
-    requires { BagsRoom starts.now joins.now pairs }
-    ensures { result ≡ dropped (parallel_by (bags_in starts.now joins.now pairs)) entry (entry_of procedure.0 locks) }
-{
-    goes(weigh(procedure, locks, entry, pairs, starts, joins))
-}
-
-// The entries to be dropped, so many, are unlinked and their slots freed. The link `first` leads to the first of them, and `before` names
-// the entry before it.
-fn prune(
-    heads: &mut [u32],
-    links: &mut [u32],
-    procedures: &[u32],
-    sets: &[u64],
-    location: usize,
-    entry: Entry,
-    slots: Slots,
-    count: u32,
-    first: usize,
-    before: usize,
-    pairs: Pairs,
-    starts: &[u32],
-    joins: &[u32],
-) -> Slots
-    requires bags_room { BagsRoom starts.now joins.now pairs }
-    requires location_lt_piece_size { location < piece_size }
-    requires piece_size_in_bounds { piece_size ≤ length heads.old }
-    requires piece_size_in_bounds_2 { piece_size ≤ length links.old }
-    requires piece_size_in_bounds_3 { piece_size ≤ length procedures.now }
-    requires piece_size_in_bounds_4 { piece_size ≤ length sets.now }
-    requires laid_out { LaidOut heads.old links.old slots (slots_of heads.old links.old) (slots_freed links.old slots) }
-    requires count_value { count ≡ how_many (drops_by (bags_in starts.now joins.now pairs) entry procedures.now sets.now)
-        (slots_of heads.old links.old location) }
-    requires first_dropped { (count ≡ 0 → ⊥) → FirstDropped (drops_by (bags_in starts.now joins.now pairs) entry procedures.now sets.now)
-        (slots_of heads.old links.old location) first before }
-    ensures { Pruned (drops_by (bags_in starts.now joins.now pairs) entry procedures.now sets.now) location
-        heads.old links.old slots heads.new links.new result }
-{
-    if count == 0 {
-        return slots;
+    // Every entry of a location's list is visited, unless one is found whose procedure is in no bag; nothing changes.
+    fn look(&self, location: usize, entry: Entry, runs: &Runs<'_>) -> Result<Seen, NotKept>
+        requires bags_room { InRoom runs.now }
+        requires walkable { Walkable self.now.heads.now self.now.links.now location }
+        requires piece_size_in_bounds { piece_size ≤ length self.now.procedures.now }
+        requires piece_size_in_bounds_2 { piece_size ≤ length self.now.sets.now }
+        ensures { result ≡ looked_over (bags_of runs.now) entry self.now.procedures.now self.now.sets.now
+            (slots_of self.now.heads.now self.now.links.now location) }
+    {
+        let mut seen = Seen::nothing();
+        let mut at = self.heads[location] as usize;
+        while at != 0 {
+            let slot = at - 1;
+            let procedure = ProcedureNumber(self.procedures[slot]);
+            if !runs.in_some_bag(procedure) {
+                return Err(NotKept::InNoBag);
+            }
+            let weighed = weigh(procedure, self.sets[slot], entry, runs);
+            seen = seen.and(at, weighed);
+            at = self.links[slot] as usize;
+        }
+        Ok(seen)
     }
-    let mut freed = slots.freed;
-    let mut last = before;
-    let mut at = first;
-    let mut left = count;
-    while left != 0 {
+
+    // The entry that a link leads to.
+    fn named_at(&self, at: usize) -> Option<Entry>
+        requires at_in_bounds { at ≤ length self.now.events.now }
+        requires at_in_bounds_2 { at ≤ length self.now.procedures.now }
+        requires at_in_bounds_3 { at ≤ length self.now.sets.now }
+        ensures { result ≡ named_at self.now.events.now self.now.procedures.now self.now.sets.now at }
+    {
+        if at == 0 {
+            return None;
+        }
         let slot = at - 1;
-        let next = links[slot];
-        let onward = wide(next);
-        if drops(
-            ProcedureNumber(procedures[slot]),
-            sets[slot],
-            entry,
-            pairs,
-            starts,
-            joins,
-        ) {
-            relink(heads, links, location, last, next);
-            links[slot] = freed;
-            freed = at as u32;
-            left -= 1;
+        Some(Entry {
+            event: EventNumber(self.events[slot]),
+            procedure: ProcedureNumber(self.procedures[slot]),
+            locks: self.sets[slot],
+        })
+    }
+
+    // What comes after the entry that `last` names, or first in the location's list where it names none, is now what `to` leads to.
+    fn relink(&mut self, location: usize, last: usize, to: u32)
+        requires location_in_bounds { location < length self.old.heads.now }
+        requires last_in_bounds { last ≤ length self.old.links.now }
+        ensures heads { self.new.heads.now ≡ heads_linked last location to self.old.heads.now }
+        ensures links { self.new.links.now ≡ links_linked last to self.old.links.now }
+        ensures entries { entries_kept self.old self.new }
+        ensures slots { self.new.slots ≡ self.old.slots }
+        ensures lent { SameLoans self.old self.new }
+    {
+        if last == 0 {
+            self.heads[location] = to;
         } else {
-            last = at;
+            self.links[last - 1] = to;
         }
-        at = onward;
     }
-    Slots {
-        freed: freed,
-        used: slots.used,
-    }
-}
 
-// The slot for the next entry is the one freed last, or else the first never used.
-fn slot_for(slots: Slots) -> usize
-    ensures { result ≡ slot_for slots }
-{
-    if slots.freed == 0 {
-        slots.used
-    } else {
-        slots.freed as usize - 1
+    // Is the entry in a slot dropped?
+    fn drops(&self, slot: usize, entry: Entry, runs: &Runs<'_>) -> bool
+        requires bags_room { InRoom runs.now }
+        requires procedures_in_bounds { slot < length self.now.procedures.now }
+        requires sets_in_bounds { slot < length self.now.sets.now }
+        ensures { result ≡ drops_by (bags_of runs.now) entry self.now.procedures.now self.now.sets.now slot }
+    {
+        let weighed = weigh(
+            ProcedureNumber(self.procedures[slot]),
+            self.sets[slot],
+            entry,
+            runs,
+        );
+        matches!(weighed, Weighed::Goes)
     }
-}
 
-// Which slots hold no entry once that one does.
-fn slots_then(links: &[u32], slots: Slots) -> Slots
-    requires freed_in_bounds { slots.freed ≤ length links.now }
-    requires used_le_piece_size { slots.used ≤ piece_size }
-    ensures { result ≡ slots_then links.now slots }
-{
-    if slots.freed == 0 {
-        return Slots {
-            freed: 0,
-            used: slots.used + 1,
-        };
+    // The entries to be dropped, so many as were seen, are unlinked and their slots freed.
+    fn prune(&mut self, location: usize, entry: Entry, seen: Seen, runs: &Runs<'_>)
+        requires bags_room { InRoom runs.now }
+        requires location_lt_piece_size { location < piece_size }
+        requires fits { Fits (pieces_of self.old) }
+        requires laid_out { LaidOut self.old.heads.now self.old.links.now self.old.slots
+            (slots_of self.old.heads.now self.old.links.now) (slots_freed self.old.links.now self.old.slots) }
+        requires count_value { seen.dropped ≡ how_many (drops_by (bags_of runs.now) entry self.old.procedures.now self.old.sets.now)
+            (slots_of self.old.heads.now self.old.links.now location) }
+        requires first_dropped { (seen.dropped ≡ 0 → ⊥)
+            → FirstDropped (drops_by (bags_of runs.now) entry self.old.procedures.now self.old.sets.now)
+            (slots_of self.old.heads.now self.old.links.now location) seen.first seen.before }
+        ensures pruned { Pruned (drops_by (bags_of runs.now) entry self.old.procedures.now self.old.sets.now) location
+            self.old.heads.now self.old.links.now self.old.slots self.new.heads.now self.new.links.now self.new.slots }
+        ensures entries { entries_kept self.old self.new }
+        ensures lent { SameLoans self.old self.new }
+    {
+        if seen.dropped == 0 {
+            return;
+        }
+        let mut last = seen.before;
+        let mut at = seen.first;
+        let mut left = seen.dropped;
+        while left != 0 {
+            let here = at;
+            let slot = here - 1;
+            let next = self.links[slot];
+            at = next as usize;
+            if self.drops(slot, entry, runs) {
+                self.relink(location, last, next);
+                self.links[slot] = self.slots.freed;
+                self.slots.freed = here as u32;
+                left -= 1;
+            } else {
+                last = here;
+            }
+        }
     }
-    Slots {
-        freed: links[slots.freed as usize - 1],
-        used: slots.used,
-    }
-}
 
-// The entry is put at the end of a location's list, after the entry that `last` names.
-fn append(
-    heads: &mut [u32],
-    links: &mut [u32],
-    events: &mut [u32],
-    procedures: &mut [u32],
-    sets: &mut [u64],
-    location: usize,
-    last: usize,
-    entry: Entry,
-    slots: Slots,
-) -> Slots
-    requires location_in_bounds { location < length heads.old }
-    requires last_le_piece_size { last ≤ piece_size }
-    requires freed_le_piece_size { slots.freed ≤ piece_size }
-    requires used_le_piece_size { slots.used ≤ piece_size }
-    requires slots_bound { slot_for slots < piece_size }
-    requires piece_size_in_bounds { piece_size ≤ length links.old }
-    requires piece_size_in_bounds_2 { piece_size ≤ length events.old }
-    requires piece_size_in_bounds_3 { piece_size ≤ length procedures.old }
-    requires piece_size_in_bounds_4 { piece_size ≤ length sets.old }
-    ensures result { result ≡ slots_then links.old slots }
-    ensures heads { heads.new ≡ heads_linked last location (slot_for slots + 1) heads.old }
-    ensures links { links.new ≡ links_linked last (slot_for slots + 1) (set links.old (slot_for slots) 0) }
-    ensures events { events.new ≡ set events.old (slot_for slots) entry.event.0 }
-    ensures procedures { procedures.new ≡ set procedures.old (slot_for slots) entry.procedure.0 }
-    ensures sets { sets.new ≡ set sets.old (slot_for slots) entry.locks }
-{
-    let slot = slot_for(slots);
-    let then = slots_then(links, slots);
-    links[slot] = 0;
-    store(events, procedures, sets, slot, entry);
-    relink(heads, links, location, last, slot as u32 + 1);
-    then
+    // Which slots hold no entry once the next one does.
+    fn slots_then(&self) -> Slots
+        requires freed_in_bounds { self.now.slots.freed ≤ length self.now.links.now }
+        requires used_le_piece_size { self.now.slots.used ≤ piece_size }
+        ensures { result ≡ slots_then self.now.links.now self.now.slots }
+    {
+        let slots = self.slots;
+        if slots.freed == 0 {
+            Slots {
+                used: slots.used + 1,
+                ..slots
+            }
+        } else {
+            Slots {
+                freed: self.links[slots.freed as usize - 1],
+                ..slots
+            }
+        }
+    }
+
+    // The entry is put at the end of a location's list, after the entry that `last` names.
+    fn append(&mut self, location: usize, last: usize, entry: Entry)
+        requires location_in_bounds { location < length self.old.heads.now }
+        requires last_le_piece_size { last ≤ piece_size }
+        requires freed_le_piece_size { self.old.slots.freed ≤ piece_size }
+        requires used_le_piece_size { self.old.slots.used ≤ piece_size }
+        requires slots_bound { slot_for self.old.slots < piece_size }
+        requires fits { Fits (pieces_of self.old) }
+        ensures slots { self.new.slots ≡ slots_then self.old.links.now self.old.slots }
+        ensures heads { self.new.heads.now ≡ heads_linked last location (slot_for self.old.slots + 1) self.old.heads.now }
+        ensures links { self.new.links.now
+            ≡ links_linked last (slot_for self.old.slots + 1) (set self.old.links.now (slot_for self.old.slots) 0) }
+        ensures events { self.new.events.now ≡ set self.old.events.now (slot_for self.old.slots) entry.event.0 }
+        ensures procedures { self.new.procedures.now ≡ set self.old.procedures.now (slot_for self.old.slots) entry.procedure.0 }
+        ensures sets { self.new.sets.now ≡ set self.old.sets.now (slot_for self.old.slots) entry.locks }
+        ensures lent { SameLoans self.old self.new }
+    {
+        let slot = self.slots.next();
+        self.slots = self.slots_then();
+        self.links[slot] = 0;
+        self.store(slot, entry);
+        self.relink(location, last, slot as u32 + 1);
+    }
 }

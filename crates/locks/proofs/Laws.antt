@@ -4,12 +4,14 @@
 use Prim.Native.Nat.{ℕ, suc, ◌^◌, ◌≤◌, ◌<◌}
 use mathlib.Core.Path.{◌≡◌, refl, sym, ap, ap₂, ◌∙◌, fun_ext}
 use mathlib.Core.Logic.{◌↔◌}
-use mathlib.Core.Bool.{Bool, true, false, cond, not, ◌&&◌, ◌||◌, and_comm, and-false, and-true, or-false, or-true, true≢false}
+use mathlib.Core.Bool.{Bool, true, false, cond, not, ◌&&◌, ◌||◌, and_comm, and-false, and-true, or-false, or-true}
 use native.Mathlib.Omega.{arith}
 use lib.Dec.{eqb, ltb}
 use borrow.Author.Tests.{lt-ltb, ltb-true, eqb-true, eq-eqb, ne_eqb}
+use Rattle.std.specs.Bool.{Decides}
+use Rattle.std.proofs.lemmas.Bool.Decides.{same_from_decides, Decides-like, Decides-not, Decides-and}
 use Rattle.locks.specs.Sets.{mark, is_lock, is_in, those, every, how_many, none, taken, released, set_of_access, is_empty, count, lowest, apart, within}
-use Rattle.locks.proofs.Members.{is_in_below as below, same_yes, is_in-those, is_in-those_below, those_lt, same_below, every_top, every_all, all_every, every_agree, how_many_top, how_many_le, how_many_one_more, first_holds, first_of_none, none_before_first}
+use Rattle.locks.proofs.Members.{is_in_below as below, is_in-those, is_in-those_below, those_lt, same_below, every_top, every_decides, every_agree, how_many_top, how_many_le, how_many_one_more, first_holds, first_of_none, none_before_first}
 use Rattle.locks.proofs.Words.{is_in_added, is_in_removed, added_others, removed_others, zero_is_none, zero_is_empty}
 
 -- ---- words stay words
@@ -123,20 +125,12 @@ set_of_access_lock reads k s e =
 -- Apart: no number is in both.
 pub apart_means : (a b : ℕ) → (apart a b ≡ true) ↔ ((k : ℕ) → k < 64 → is_in k a ≡ true → is_in k b ≡ true → ⊥)
 unfolding apart
-apart_means a b = (
-  λ e k h. never (is_in k a) (is_in k b) (every_all 64 (λ j. not (is_in j a && is_in j b)) e k h),
-  λ f. all_every 64 (λ j. not (is_in j a && is_in j b)) (λ k h. not_both (is_in k a) (is_in k b) (f k h)),
-)
+apart_means a b = every_decides (λ k. not (is_in k a && is_in k b)) (λ k. is_in k a ≡ true → is_in k b ≡ true → ⊥) not_both 64
   where
-    never : (x y : Bool) → not (x && y) ≡ true → x ≡ true → y ≡ true → ⊥
-    never true true e p q = true≢false (sym e)
-    never true false e p q = true≢false (sym q)
-    never false y e p q = true≢false (sym p)
-
-    not_both : (x y : Bool) → (x ≡ true → y ≡ true → ⊥) → not (x && y) ≡ true
-    not_both true true f = absurd (f refl refl)
-    not_both true false f = refl
-    not_both false y f = refl
+    not_both : (k : ℕ) → Decides (not (is_in k a && is_in k b)) (is_in k a ≡ true → is_in k b ≡ true → ⊥)
+    not_both k =
+        Decides-like (not (is_in k a && is_in k b)) (λ f p q. f (p, q)) (λ f both. f both.0 both.1)
+        (Decides-not (is_in k a && is_in k b) (Decides-and (is_in k a) (is_in k b) (λ p. p, λ p. p) (λ q. q, λ q. q)))
 
 -- Which of the two comes first does not matter.
 pub apart_sym : (a b : ℕ) → apart a b ≡ apart b a
@@ -146,18 +140,12 @@ apart_sym a b = ap (every 64) (fun_ext (λ (k : ℕ). ap not (and_comm (is_in k 
 -- Within: whatever is in the first is in the second.
 pub within_means : (a b : ℕ) → (within a b ≡ true) ↔ ((k : ℕ) → k < 64 → is_in k a ≡ true → is_in k b ≡ true)
 unfolding within
-within_means a b = (
-  λ e k h. carries (is_in k a) (is_in k b) (every_all 64 (λ j. not (is_in j a) || is_in j b) e k h),
-  λ f. all_every 64 (λ j. not (is_in j a) || is_in j b) (λ k h. not_or (is_in k a) (is_in k b) (f k h)),
-)
+within_means a b =
+    every_decides (λ k. not (is_in k a) || is_in k b) (λ k. is_in k a ≡ true → is_in k b ≡ true) (λ k. carries (is_in k a) (is_in k b)) 64
   where
-    carries : (x y : Bool) → (not x || y) ≡ true → x ≡ true → y ≡ true
-    carries true y e p = e
-    carries false y e p = absurd (true≢false (sym p))
-
-    not_or : (x y : Bool) → (x ≡ true → y ≡ true) → (not x || y) ≡ true
-    not_or true y f = f refl
-    not_or false y f = refl
+    carries : (x y : Bool) → Decides (not x || y) (x ≡ true → y ≡ true)
+    carries true y = (λ e p. e, λ f. f refl)
+    carries false y = (λ e p. absurd cc, λ f. refl)
 
 -- A set lies within itself, and within whatever holds a set that it lies within.
 pub within_refl : (a : ℕ) → within a a ≡ true
@@ -169,7 +157,8 @@ within_trans a b c p q = (within_means a c).1 (λ k h x. (within_means b c).0 q 
 -- Two words that lie within each other are the same word.
 pub within_both_ways : (a b : ℕ) → a < 2 ^ 64 → b < 2 ^ 64 → within a b ≡ true → within b a ≡ true → a ≡ b
 within_both_ways a b h m p q =
-    same_members a b h m (λ k j. same_yes (is_in k a) (is_in k b) ((within_means a b).0 p k j) ((within_means b a).0 q k j))
+    same_members a b h m
+    (λ k j. same_from_decides (is_in k a) (is_in k b) ((within_means a b).0 p k j, (within_means b a).0 q k j) (λ e. e, λ e. e))
 
 -- What lies within a set that shares nothing with c shares nothing with c.
 pub within_apart : (a b c : ℕ) → within a b ≡ true → apart b c ≡ true → apart a c ≡ true
@@ -182,8 +171,8 @@ pub none_is_zero : none ≡ 0
 none_is_zero = sym zero_is_none
 
 pub none_is_empty : is_empty none ≡ true
-unfolding is_empty
-none_is_empty = all_every 64 (λ k. not (is_in k none)) (λ k h. ap not (is_in-none k))
+unfolding is_empty every is_in none those
+none_is_empty = refl
 
 -- The empty word is 0.
 pub empty_is_zero : (s : ℕ) → s < 2 ^ 64 → (is_empty s ≡ true) ↔ (s ≡ 0)

@@ -5,50 +5,49 @@
 use Prim.Native.Nat.{ℕ, zero, suc, ◌+◌, ◌*◌, ◌/◌, ◌%◌, ◌^◌, ◌≤◌, ◌<◌, zero-le, suc-le-suc}
 use mathlib.Core.Path.{◌≡◌, refl, sym, ap, ap₂, ◌∙◌}
 use mathlib.Core.Logic.{◌⊎◌, inl, inr}
-use mathlib.Core.Bool.{Bool, true, false, cond, not, ◌&&◌, beq, and-false, and-eq-true_iff, true≢false}
-use native.Mathlib.Nat.{pow-suc, pow-succ', div-div-eq-div-mul, div-eq_of_lt, div-one, zero-div, lt_of_lt_of_le, mod-lt, le_refl, le_of_suc-le-suc, not-suc-le-zero, eq-or-lt_of_le}
+use mathlib.Core.Bool.{Bool, true, false, cond, not, ◌&&◌, beq, and-false, true≢false}
+use native.Mathlib.Nat.{pow-suc, le_refl, le_of_suc-le-suc, not-suc-le-zero, eq-or-lt_of_le}
 use native.Mathlib.Omega.{arith}
 use lib.Dec.{eqb, ltb, leb-zero, leb-suc-zero, leb-suc-suc}
-use lib.Pow.{pow_mono}
-use borrow.Author.Tests.{lt-ltb, ltb-true, ltb-false, eqb-true, eq-eqb}
+use borrow.Author.Tests.{lt-ltb, ltb-true, ltb-false}
+use Rattle.std.specs.Bool.{Decides}
+use Rattle.std.specs.Cmp.{booleans_Decides}
+use Rattle.std.specs.Int.{bit_at}
+use Rattle.std.proofs.lemmas.Bool.Decides.{same_from_decides, Decides-eqb, Decides-like, Decides-below_and}
+use Rattle.std.proofs.lemmas.Nat.Bits.{bit_at-lt, bit_at_lowest, bit_at-suc, bit_at-zero, bit_at_above, same_from_bits_below}
 use Rattle.locks.specs.Sets.{is_in, those, every, how_many, first}
-
--- ---- truth values
-
--- Two tests that say yes to the same are equal.
-pub same_yes : (x y : Bool) → (x ≡ true → y ≡ true) → (y ≡ true → x ≡ true) → x ≡ y
-same_yes true y f g = sym (f refl)
-same_yes false true f g = g refl
-same_yes false false f g = refl
 
 -- ---- the digits of a word, lowest first
 
--- Number 0 is the lowest digit, and number `suc k` is number k of the half.
-pub is_in_zero : (s : ℕ) → is_in 0 s ≡ eqb (s % 2) 1
+-- A digit as a number.
+pub digit_at : (k s : ℕ) → cond (is_in k s) 1 0 ≡ bit_at s k
 unfolding is_in
-is_in_zero s = ap (λ (x : ℕ). eqb (x % 2) 1) (div-one s)
-
-pub is_in_suc : (k s : ℕ) → is_in (suc k) s ≡ is_in k (s / 2)
-unfolding is_in
-is_in_suc k s = ap (λ (x : ℕ). eqb (x % 2) 1) (ap (λ (x : ℕ). s / x) (pow-succ' 2 k) ∙ sym (div-div-eq-div-mul s 2 (2 ^ k)))
-
--- The lowest digit as a number.
-pub low_digit : (s : ℕ) → cond (is_in 0 s) 1 0 ≡ s % 2
-low_digit s = rw is_in_zero (digit (s % 2) (mod-lt s (suc-le-suc zero-le)))
+digit_at k s = digit (bit_at s k) (bit_at-lt s k)
   where
     digit : (d : ℕ) → d < 2 → cond (eqb d 1) 1 0 ≡ d
     digit zero h = refl
     digit (suc zero) h = refl
     digit (suc (suc d)) h = absurd (omega arith)
 
+-- A digit that is 1 or 0 as a test says.
+pub is_in_by : (k s : ℕ) (x : Bool) → bit_at s k ≡ cond x 1 0 → is_in k s ≡ x
+unfolding is_in
+is_in_by k s true e = ap (λ (d : ℕ). eqb d 1) e
+is_in_by k s false e = ap (λ (d : ℕ). eqb d 1) e
+
+-- Number 0 is the lowest digit, and number `suc k` is number k of the half.
+pub low_digit : (s : ℕ) → cond (is_in 0 s) 1 0 ≡ s % 2
+low_digit s = digit_at 0 s ∙ bit_at_lowest s
+
+pub is_in_suc : (k s : ℕ) → is_in (suc k) s ≡ is_in k (s / 2)
+is_in_suc k s = is_in_by (suc k) s (is_in k (s / 2)) (bit_at-suc s k ∙ sym (digit_at k (s / 2)))
+
 -- Nothing is in 0, and nothing from n on in a word below 2 ^ n: its members are below n.
 pub is_in_of_zero : (k : ℕ) → is_in k 0 ≡ false
-unfolding is_in
-is_in_of_zero k = ap (λ (x : ℕ). eqb (x % 2) 1) (zero-div (2 ^ k))
+is_in_of_zero k = is_in_by k 0 false (bit_at-zero k)
 
 pub is_in_high : (n : ℕ) {k s : ℕ} → s < 2 ^ n → n ≤ k → is_in k s ≡ false
-unfolding is_in
-is_in_high n h l = ap (λ (x : ℕ). eqb (x % 2) 1) (div-eq_of_lt (lt_of_lt_of_le h (pow_mono l)))
+is_in_high n {k} {s} h l = is_in_by k s false (bit_at_above s n k h l)
 
 pub is_in_below : (n k s : ℕ) → s < 2 ^ n → is_in k s ≡ true → k < n
 is_in_below n k s h e = by_test (ltb k n) refl
@@ -61,12 +60,8 @@ is_in_below n k s h e = by_test (ltb k n) refl
 
 -- Below 2 ^ n it is enough to look at the numbers below n.
 pub same_below : (n a b : ℕ) → a < 2 ^ n → b < 2 ^ n → ((k : ℕ) → k < n → is_in k a ≡ is_in k b) → a ≡ b
-same_below zero a b h l f = omega arith
-same_below (suc n) a b h l f =
-    let halves : (k : ℕ) → k < n → is_in k (a / 2) ≡ is_in k (b / 2) = λ k m. sym (is_in_suc k a) ∙ f (suc k) (suc-le-suc m) ∙ is_in_suc k b in
-    let half = same_below n (a / 2) (b / 2) (omega (arith, pow-suc 2 n)) (omega (arith, pow-suc 2 n)) halves in
-    let low : a % 2 ≡ b % 2 = sym (low_digit a) ∙ ap (λ (x : Bool). cond x 1 0) (f 0 (suc-le-suc zero-le)) ∙ low_digit b in
-    omega arith
+same_below n a b h l f =
+    same_from_bits_below n a b h l (λ k m. sym (digit_at k a) ∙ ap (λ (x : Bool). cond x 1 0) (f k m) ∙ digit_at k b)
 
 -- ---- `those`
 
@@ -77,10 +72,6 @@ cond_le false x = zero-le
 cond_double : (b : Bool) (n : ℕ) → cond b (2 ^ suc n) 0 ≡ cond b (2 ^ n) 0 * 2
 cond_double true n = pow-suc 2 n
 cond_double false n = refl
-
-pub eqb_cond : (b : Bool) → eqb (cond b 1 0) 1 ≡ b
-eqb_cond true = refl
-eqb_cond false = refl
 
 -- The set of numbers below n is below 2 ^ n.
 pub those_lt : (n : ℕ) (p : ℕ → Bool) → those n p < 2 ^ n
@@ -105,7 +96,7 @@ pub is_in-those : (n : ℕ) (p : ℕ → Bool) (k : ℕ) → is_in k (those n p)
 unfolding those
 is_in-those zero p k = is_in_of_zero k ∙ sym (ap (λ (x : Bool). x && p k) (leb-suc-zero k))
 is_in-those (suc n) p zero =
-    is_in_zero (those (suc n) p) ∙ ap (λ (x : ℕ). eqb x 1) (those_odd n p) ∙ eqb_cond (p 0)
+    is_in_by 0 (those (suc n) p) (p 0) (bit_at_lowest (those (suc n) p) ∙ those_odd n p)
     ∙ sym (ap (λ (x : Bool). x && p 0) (leb-suc-suc 0 n ∙ leb-zero n))
 is_in-those (suc n) p (suc k) =
     is_in_suc k (those (suc n) p) ∙ ap (is_in k) (those_half n p) ∙ is_in-those n (λ j. p (suc j)) k
@@ -133,27 +124,16 @@ pub every_top : (n : ℕ) (p : ℕ → Bool) → every (suc n) p ≡ (p n && eve
 unfolding every
 every_top n p = refl
 
--- It says yes exactly if the test says yes to each number below n.
-pub every_all : (n : ℕ) (p : ℕ → Bool) → every n p ≡ true → (k : ℕ) → k < n → p k ≡ true
+-- It says yes exactly if what the test decides holds of each number below n.
+pub every_decides : (p : ℕ → Bool) (P : ℕ → Type 0) → ((k : ℕ) → Decides (p k) (P k)) → (n : ℕ) → Decides (every n p) ((k : ℕ) → k < n → P k)
 unfolding every
-every_all zero p e k h = absurd (not-suc-le-zero h)
-every_all (suc n) p e k h =
-    let here = (and-eq-true_iff (p n) (every n p)).0 e in at_or_below here.0 (every_all n p here.1 k) (eq-or-lt_of_le (le_of_suc-le-suc h))
-  where
-    at_or_below : p n ≡ true → (k < n → p k ≡ true) → (k ≡ n) ⊎ (k < n) → p k ≡ true
-    at_or_below top rest (inl q) = ap p q ∙ top
-    at_or_below top rest (inr l) = rest l
-
-pub all_every : (n : ℕ) (p : ℕ → Bool) → ((k : ℕ) → k < n → p k ≡ true) → every n p ≡ true
-unfolding every
-all_every zero p f = refl
-all_every (suc n) p f = rw (f n (le_refl (suc n))) (all_every n p (λ k h. f k (omega arith)))
+every_decides p P each = Decides-below_and p P (λ n. every n p) each refl (λ n. refl)
 
 -- Tests that agree below n.
 pub every_agree : (n : ℕ) (p q : ℕ → Bool) → ((k : ℕ) → k < n → p k ≡ q k) → every n p ≡ every n q
-every_agree n p q f =
-    same_yes (every n p) (every n q) (λ e. all_every n q (λ k h. sym (f k h) ∙ every_all n p e k h))
-    (λ e. all_every n p (λ k h. f k h ∙ every_all n q e k h))
+unfolding every
+every_agree zero p q f = refl
+every_agree (suc n) p q f = ap₂ ◌&&◌ (f n (le_refl (suc n))) (every_agree n p q (λ k h. f k (omega arith)))
 
 -- Lowest first.
 every_low : (n : ℕ) (p : ℕ → Bool) → every (suc n) p ≡ (p 0 && every n (λ k. p (suc k)))
@@ -169,21 +149,10 @@ every_low (suc n) p = ap (λ (x : Bool). p (suc n) && x) (every_low n p) ∙ swa
 -- Two words below 2 ^ n are equal: each number is in both or in neither.
 pub equal_is_every : (n a b : ℕ) → a < 2 ^ n → b < 2 ^ n → eqb a b ≡ every n (λ k. beq (is_in k a) (is_in k b))
 equal_is_every n a b h l =
-    same_yes (eqb a b) (every n (λ k. beq (is_in k a) (is_in k b)))
-    (λ e. all_every n (λ k. beq (is_in k a) (is_in k b)) (λ k m. alike (is_in k a) (is_in k b) (ap (is_in k) (eqb-true a b e))))
-    (λ e. eq-eqb a b (same_below n a b h l (λ k m. like (is_in k a) (is_in k b) (every_all n (λ j. beq (is_in j a) (is_in j b)) e k m))))
-  where
-    alike : (x y : Bool) → x ≡ y → beq x y ≡ true
-    alike true true e = refl
-    alike true false e = sym e
-    alike false true e = e
-    alike false false e = refl
-
-    like : (x y : Bool) → beq x y ≡ true → x ≡ y
-    like true true e = refl
-    like true false e = sym e
-    like false true e = e
-    like false false e = refl
+    let both : ℕ → Bool = λ k. beq (is_in k a) (is_in k b) in
+    let same = every_decides both (λ k. is_in k a ≡ is_in k b) (λ k. booleans_Decides (is_in k a) (is_in k b)) n in
+    same_from_decides (eqb a b) (every n both) (Decides-eqb a b)
+    (Decides-like (every n both) (same_below n a b h l) (λ e k m. ap (is_in k) e) same)
 
 -- ---- `how_many`
 

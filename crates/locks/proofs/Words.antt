@@ -1,78 +1,61 @@
--- What the operations on words are, by who is in the result: a law for each digit of `&`, `|`, `!` and `1 << l`, each by induction on the
--- digits, and from them what each function's result is: the word with exactly the members that the specification names.
+-- What the operations on words are, by who is in the result: a law for each digit of `&`, `|`, `!` and `1 << l`, and from them what each
+-- function's result is: the word with exactly the members that the specification names.
 -- Assumes nothing.
 use Prim.Native.Nat.{ℕ, zero, suc, ◌+◌, ◌-◌, ◌*◌, ◌/◌, ◌%◌, ◌^◌, ◌≤◌, ◌<◌, zero-le, suc-le-suc, min, max}
 use mathlib.Core.Path.{◌≡◌, refl, sym, ap, ap₂, ◌∙◌, fun_ext}
 use mathlib.Core.Bool.{Bool, true, false, cond, not, ◌&&◌, ◌||◌, beq, or-false, and-true, and-false, and-eq-true_iff, true≢false}
-use native.Mathlib.Nat.{pow-suc, mod-lt, one-mul, not-suc-le-zero}
+use native.Mathlib.Nat.{pow-suc, mod-lt, one-mul}
 use native.Mathlib.Omega.{arith}
-use lib.Dec.{eqb, eqb-zero-suc, eqb-suc-zero, eqb-suc-suc}
+use lib.Dec.{eqb}
 use lib.Pow.{pow_pos, shl_exact}
-use lib.Bits.{bit_and, bit_or, and_step, or_step, and_lt, or_lt}
+use lib.Bits.{bit_and, bit_or, and_lt, or_lt}
 use lib.Count.{ones, ones_step, ones-le, count_trailing_zeros, under}
-use borrow.Author.Tests.{lt-ltb, le-ltb, eqb-true, ne_eqb}
+use borrow.Author.Tests.{lt-ltb, le-ltb, eqb-true, eq-eqb, ne_eqb}
+use Rattle.std.specs.Int.{w64, bit_at}
+use Rattle.std.proofs.lemmas.Nat.Bits.{bit_at_and, bit_at_or, bit_at_not, bit_at-pow_same, bit_at-pow_other}
 use Rattle.locks.specs.Sets.{numbers, mark, is_in, those, every, how_many, first, taken, released, set_of_access, none, is_empty, count, lowest, apart, within}
-use Rattle.locks.proofs.Members.{is_in_below, is_in-those_inside, is_in-those_below, is_in_zero, is_in_suc, is_in_of_zero, is_in_high, low_digit, cond_le, eqb_cond, is_those, equal_is_every, how_many_low}
+use Rattle.locks.proofs.Members.{is_in_below, is_in-those_inside, is_in-those_below, digit_at, is_in_by, is_in_suc, is_in_of_zero, is_in_high, low_digit, is_those, equal_is_every, how_many_low}
 
 -- ---- digit by digit
 
--- An operation that works on each pair of digits apart works on the members apart.
-module _ (op : ℕ → ℕ → ℕ) (digit : ℕ → ℕ → ℕ) (both : Bool → Bool → Bool)
-    (step : (a b : ℕ) → op a b ≡ op (a / 2) (b / 2) * 2 + digit (a % 2) (b % 2))
-    (digits : (x y : Bool) → digit (cond x 1 0) (cond y 1 0) ≡ cond (both x y) 1 0) where
-  low : (a b : ℕ) → digit (a % 2) (b % 2) ≡ cond (both (is_in 0 a) (is_in 0 b)) 1 0
-  low a b = ap₂ digit (sym (low_digit a)) (sym (low_digit b)) ∙ digits (is_in 0 a) (is_in 0 b)
-
-  is_in_op : (k a b : ℕ) → is_in k (op a b) ≡ both (is_in k a) (is_in k b)
-  is_in_op zero a b =
-      let odd : op a b % 2 ≡ cond (both (is_in 0 a) (is_in 0 b)) 1 0 = omega (arith, step a b, low a b, cond_le (both (is_in 0 a) (is_in 0 b)) 1) in
-      is_in_zero (op a b) ∙ ap (λ (x : ℕ). eqb x 1) odd ∙ eqb_cond (both (is_in 0 a) (is_in 0 b))
-  is_in_op (suc k) a b =
-      let half : op a b / 2 ≡ op (a / 2) (b / 2) = omega (arith, step a b, low a b, cond_le (both (is_in 0 a) (is_in 0 b)) 1) in
-      is_in_suc k (op a b) ∙ ap (is_in k) half ∙ is_in_op k (a / 2) (b / 2) ∙ sym (ap₂ both (is_in_suc k a) (is_in_suc k b))
-
 pub is_in_and : (k a b : ℕ) → is_in k (bit_and a b) ≡ (is_in k a && is_in k b)
-is_in_and = is_in_op bit_and min ◌&&◌ and_step digits
+is_in_and k a b =
+    is_in_by k (bit_and a b) (is_in k a && is_in k b)
+    (bit_at_and a b k ∙ ap₂ min (sym (digit_at k a)) (sym (digit_at k b)) ∙ least (is_in k a) (is_in k b))
   where
-    digits : (x y : Bool) → min (cond x 1 0) (cond y 1 0) ≡ cond (x && y) 1 0
-    digits true true = refl
-    digits true false = refl
-    digits false true = refl
-    digits false false = refl
+    least : (x y : Bool) → min (cond x 1 0) (cond y 1 0) ≡ cond (x && y) 1 0
+    least true true = refl
+    least true false = refl
+    least false true = refl
+    least false false = refl
 
 pub is_in_or : (k a b : ℕ) → is_in k (bit_or a b) ≡ (is_in k a || is_in k b)
-is_in_or = is_in_op bit_or max ◌||◌ or_step digits
+is_in_or k a b =
+    is_in_by k (bit_or a b) (is_in k a || is_in k b)
+    (bit_at_or a b k ∙ ap₂ max (sym (digit_at k a)) (sym (digit_at k b)) ∙ greatest (is_in k a) (is_in k b))
   where
-    digits : (x y : Bool) → max (cond x 1 0) (cond y 1 0) ≡ cond (x || y) 1 0
-    digits true true = refl
-    digits true false = refl
-    digits false true = refl
-    digits false false = refl
+    greatest : (x y : Bool) → max (cond x 1 0) (cond y 1 0) ≡ cond (x || y) 1 0
+    greatest true true = refl
+    greatest true false = refl
+    greatest false true = refl
+    greatest false false = refl
 
--- The complement n of a among the words of w digits.
-pub is_in_complement : (w n a : ℕ) → n + a + 1 ≡ 2 ^ w → (k : ℕ) → k < w → is_in k n ≡ not (is_in k a)
-is_in_complement zero n a e k h = absurd (not-suc-le-zero h)
-is_in_complement (suc w) n a e zero h = other (is_in 0 n) (is_in 0 a) (omega (arith, pow-suc 2 w, low_digit n, low_digit a))
+-- The complement of a among the words.
+pub is_in_complement : (k a : ℕ) → a < 2 ^ 64 → k < 64 → is_in k (2 ^ 64 - 1 - a) ≡ not (is_in k a)
+is_in_complement k a h l =
+    is_in_by k (2 ^ 64 - 1 - a) (not (is_in k a)) (bit_at_not w64 a k h l ∙ ap (λ (d : ℕ). 1 - d) (sym (digit_at k a)) ∙ other (is_in k a))
   where
-    other : (x y : Bool) → cond x 1 0 + cond y 1 0 ≡ 1 → x ≡ not y
-    other true true q = absurd (omega arith)
-    other true false q = refl
-    other false true q = refl
-    other false false q = absurd (omega arith)
-is_in_complement (suc w) n a e (suc k) h =
-    is_in_suc k n ∙ is_in_complement w (n / 2) (a / 2) (omega (arith, pow-suc 2 w)) k (omega arith) ∙ sym (ap not (is_in_suc k a))
+    other : (x : Bool) → 1 - cond x 1 0 ≡ cond (not x) 1 0
+    other true = refl
+    other false = refl
 
 -- The word of one number.
 pub is_in_power : (k l : ℕ) → is_in k (2 ^ l) ≡ eqb k l
-unfolding is_in
-is_in_power zero zero = refl
-is_in_power zero (suc l) =
-    let even : 2 ^ suc l % 2 ≡ 0 = omega (arith, pow-suc 2 l) in
-    is_in_zero (2 ^ suc l) ∙ ap (λ (x : ℕ). eqb x 1) even ∙ sym (eqb-zero-suc l)
-is_in_power (suc k) zero = is_in_suc k 1 ∙ is_in_of_zero k ∙ sym (eqb-suc-zero k)
-is_in_power (suc k) (suc l) =
-    let half : 2 ^ suc l / 2 ≡ 2 ^ l = omega (arith, pow-suc 2 l) in
-    is_in_suc k (2 ^ suc l) ∙ ap (is_in k) half ∙ is_in_power k l ∙ sym (eqb-suc-suc k l)
+is_in_power k l = is_in_by k (2 ^ l) (eqb k l) (by_test (eqb k l) refl)
+  where
+    by_test : (x : Bool) → eqb k l ≡ x → bit_at (2 ^ l) k ≡ cond x 1 0
+    by_test true e = ap (bit_at (2 ^ l)) (eqb-true k l e) ∙ bit_at-pow_same l
+    by_test false e = bit_at-pow_other l k (λ q. true≢false (sym (eq-eqb k l q) ∙ e))
 
 -- ---- one number more, one number less
 
@@ -124,7 +107,7 @@ and_not_is_removed l s h m =
     let a : ℕ = 1 * 2 ^ l % 2 ^ 64 in
     let n : ℕ = 2 ^ 64 - 1 - a in
     let small : a < 2 ^ 64 = mod-lt (1 * 2 ^ l) (pow_pos 64) in
-    let rest : (k : ℕ) → k < 64 → is_in k n ≡ not (eqb k l) = λ k j. is_in_complement 64 n a (omega arith) k j ∙ ap not (is_in_shifted k l h) in
+    let rest : (k : ℕ) → k < 64 → is_in k n ≡ not (eqb k l) = λ k j. is_in_complement k a small j ∙ ap not (is_in_shifted k l h) in
     is_those 64 (bit_and s n) (λ k. is_in k s && not (eqb k l)) (and_lt 64 s n m (omega arith))
     (λ k j. is_in_and k s n ∙ ap (λ (x : Bool). is_in k s && x) (rest k j))
 
@@ -219,3 +202,20 @@ trailing_is_first (suc n) s =
 pub trailing_is_lowest : (s : ℕ) → count_trailing_zeros 64 s ≡ lowest s
 unfolding lowest
 trailing_is_lowest s = trailing_is_first 64 s
+
+-- By these the functions meet their contracts.
+pub ruleset words = (
+  zero_is_none,
+  or_is_taken,
+  self_is_taken,
+  and_not_is_released,
+  self_is_released,
+  or_is_read,
+  self_is_written,
+  high_is_out,
+  zero_is_empty,
+  and_zero_is_apart,
+  and_self_is_within,
+  ones_is_count,
+  trailing_is_lowest,
+)

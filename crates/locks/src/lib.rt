@@ -1,8 +1,8 @@
 // Sets of locks for the race checker. A set is one 64-bit word; what each function means is said by who is in the
 // set (specs/Sets.antt). Nothing here knows of bytes, procedures or locations.
-#![tactic(auto)]
+#![tactic(auto, unfolding(crate::specs::Sets::is_in), using(crate::proofs::Words::words))]
 
-ghost use Rattle.std.specs.Prelude.{◌≡◌};
+ghost use Rattle.std.specs.Prelude.{◌≡◌, if◌then◌else◌, None, Some};
 ghost use Rattle.locks.specs.Sets.{is_in, none, taken, released, set_of_access, is_empty, count, lowest, apart, within};
 
 // Locks have the numbers below this one.
@@ -11,26 +11,26 @@ pub const LOCKS: u32 = 63;
 // The number of the read mark.
 pub const READ_MARK: u32 = 63;
 
-// The set of locks held at one moment.
-#[derive(Clone, Copy)]
+// The set of locks held at one moment, in one word, as 01 asks for it.
+#[derive(Clone, Copy, Debug, PartialEq, Eq)]
 pub struct Held {
     pub bits: u64,
 }
 
 impl Held {
     // No lock is held.
-    pub fn none() -> Held
+    pub fn none() -> Self
         ensures { result.bits ≡ none }
     {
-        Held { bits: 0 }
+        Self { bits: 0 }
     }
 
     // The set with a lock in it. A number that is no lock's changes nothing.
-    pub fn take(self, lock: u32) -> Held
+    pub fn take(self, lock: u32) -> Self
         ensures { result.bits ≡ taken lock self.bits }
     {
         if lock < LOCKS {
-            Held {
+            Self {
                 bits: self.bits | 1u64 << lock,
             }
         } else {
@@ -39,11 +39,11 @@ impl Held {
     }
 
     // The set with a lock out of it. A number that is no lock's changes nothing.
-    pub fn release(self, lock: u32) -> Held
+    pub fn release(self, lock: u32) -> Self
         ensures { result.bits ≡ released lock self.bits }
     {
         if lock < LOCKS {
-            Held {
+            Self {
                 bits: self.bits & !(1u64 << lock),
             }
         } else {
@@ -69,14 +69,18 @@ impl Held {
     pub fn count(self) -> u32
         ensures { result ≡ count self.bits }
     {
-        u64::count_ones(self.bits)
+        self.bits.count_ones()
     }
 
-    // The lowest lock held, or 64 where none is.
-    pub fn lowest(self) -> u32
-        ensures { result ≡ lowest self.bits }
+    // The lowest lock held, if one is.
+    pub fn lowest(self) -> Option<u32>
+        ensures { result ≡ (if is_empty self.bits then None else Some (lowest self.bits)) }
     {
-        u64::trailing_zeros(self.bits)
+        if self.is_empty() {
+            None
+        } else {
+            Some(self.bits.trailing_zeros())
+        }
     }
 
     // The lock set of an access that is made with these locks held.
@@ -95,11 +99,7 @@ impl Held {
 pub fn is_in(number: u32, set: u64) -> bool
     ensures { result ≡ is_in number set }
 {
-    if number < 64 {
-        (set >> number) % 2 == 1
-    } else {
-        false
-    }
+    number < 64 && (set >> number) % 2 == 1
 }
 
 // Do two sets have nothing in common?

@@ -1,7 +1,7 @@
 pub mod Examples
 pub mod Groups
 pub mod Gathering
-pub mod Judging
+pub mod Naming
 pub mod Laws
 pub mod FromBytes
 pub mod OneForm

@@ -3,6 +3,7 @@
 use Rattle.outcome.specs.Outcome.{OneResult}
 use Rattle.trace.proofs.read_number.Reads as read_number_contract
 use Rattle.trace.proofs.read_event.Reads as read_event_contract
+use Rattle.trace.proofs.KindTryFromU32.try_from.Reads as try_from_contract
 use Rattle.trace.proofs.Refusal.code.Reads as code_contract
 use Rattle.trace.proofs.Event.largest_operand.Reads as largest_operand_contract
 use Rattle.trace.proofs.Event.lawful_holding.Reads as lawful_holding_contract
@@ -13,6 +14,7 @@ use Rattle.trace.proofs.Event.location.Reads as location_contract
 pub record NoTwoOutcomes : Type 0 where
   pub read_number : OneResult read_number_contract.Post
   pub read_event : OneResult read_event_contract.Post
+  pub try_from : OneResult try_from_contract.Post
   pub code : OneResult code_contract.Post
   pub largest_operand : OneResult largest_operand_contract.Post
   pub lawful_holding : OneResult lawful_holding_contract.Post
@@ -24,6 +26,7 @@ pub no_two_outcomes : NoTwoOutcomes
 no_two_outcomes = record {
   read_number = λ κ a x y s s' p q. cc;
   read_event = λ κ a x y s s' p q. cc;
+  try_from = λ κ a x y s s' p q. cc;
   code = λ κ a x y s s' p q. cc;
   largest_operand = λ κ a x y s s' p q. cc;
   lawful_holding = λ κ a x y s s' p q. cc;

@@ -1,16 +1,16 @@
 -- The shortest form is the only one: where the same number is read twice, the same bytes stand. By induction on the bytes of both: a group that another
 -- follows leaves a rest that is not zero, so the first groups, and which of them are followed, can be told from the value. Assumes nothing.
-use Prim.Native.Nat.{ℕ, zero, suc, ◌+◌, ◌-◌, ◌*◌, ◌%◌, ◌≤◌, ◌<◌}
+use Prim.Native.Nat.{ℕ, suc, ◌+◌, ◌-◌, ◌*◌, ◌%◌, ◌≤◌, ◌<◌}
 use mathlib.Core.Path.{◌≡◌, refl, sym, ap, ap₂, ◌∙◌}
 use mathlib.Core.Bool.{Bool, true, false}
 use mathlib.Core.List.{List, [], ◌∷◌}
 use native.Mathlib.Omega.{arith}
+use native.Mathlib.Nat.{pos_of_ne-zero}
 use lib.Dec.{leb}
 use lib.ListN.{length, get_or, take, drop}
 use lib.Seq.{get_or-drop}
 use borrow.Author.Tests.{leb-true, leb-false}
-use Rattle.trace.specs.declared.Number.TheVariants.{Value}
-use Rattle.trace.specs.Numbers.{Bytes, group, value, followed, size, number_at}
+use Rattle.trace.specs.Numbers.{Bytes, group, value, followed, size, number_then, number_at}
 use Rattle.trace.proofs.Laws.{whole}
 
 abbrev last : List ℕ → ℕ
@@ -55,11 +55,7 @@ not_zero (x ∷ bytes) inside some = go (leb 128 x) refl (not_zero bytes)
     go true top rest =
         let more : 0 < worth bytes = rest (omega (arith, followed_top x bytes top)) (λ none. some (last_followed x bytes top ∙ none)) in
         rw (worth_followed x bytes top) (omega arith)
-    go false low rest = rw (worth_last x bytes low) (pos (x % 128) (λ none. some (last_last x bytes low ∙ none)))
-      where
-        pos : (n : ℕ) → (n ≡ 0 → ⊥) → 0 < n
-        pos zero h = absurd (h refl)
-        pos (suc n) h = omega arith
+    go false low rest = rw (worth_last x bytes low) (pos_of_ne-zero (λ none. some (last_last x bytes low ∙ none)))
 
 -- ---- the same value, the same bytes
 
@@ -101,7 +97,7 @@ same_bytes (x ∷ xs) (y ∷ ys) bx by ix iy sx sy e = go (leb 128 x) (leb 128 y
 
 -- so at two places of two traces
 pub one_form : (trace trace' : List ℕ) (at at' number next next' : ℕ) → Bytes trace → Bytes trace'
-    → number_at trace at ≡ Value number next → number_at trace' at' ≡ Value number next'
+    → number_at trace at ≡ number_then number next → number_at trace' at' ≡ number_then number next'
     → take (next - at) (drop at trace) ≡ take (next' - at') (drop at' trace')
 unfolding number_at worth
 one_form trace trace' at at' number next next' b b' e e' =

@@ -1,6 +1,10 @@
 -- The kinds of events and what the table says of each.
-use Rattle.std.specs.Prelude.{ℕ, ◌+◌, ◌*◌, ◌/◌, ◌%◌, Bool, List, [], ◌∷◌, eqb, get_or}
+use Rattle.std.specs.Prelude.{ℕ, ◌+◌, ◌*◌, ◌/◌, ◌%◌, Bool, List, [], ◌∷◌, eqb, get_or, Result, Ok, Err}
 use Rattle.trace.specs.declared.Event.{Event}
+use Rattle.trace.specs.declared.Kind.{Kind}
+use Rattle.trace.specs.declared.Kind.TheVariants.{Spawn, Return, Sync, Lock, Unlock, Read, Write}
+use Rattle.trace.specs.declared.Refusal.{Refusal}
+use Rattle.trace.specs.declared.Refusal.TheVariants.{Reserved}
 
 -- The kind is the number mod 8, the operand the number divided by 8, rounded down.
 abbrev pub event_of : ℕ → Event
@@ -40,6 +44,10 @@ is_unlocking e = eqb e.kind 4
 
 abbrev pub reserved : ℕ
 reserved = 7
+
+-- The kinds in the order of their numbers. The other numbers, the reserved one among them, name none.
+abbrev pub kind_named : ℕ → Result Kind Refusal
+kind_named number = get_or (Ok Spawn ∷ Ok Return ∷ Ok Sync ∷ Ok Lock ∷ Ok Unlock ∷ Ok Read ∷ Ok Write ∷ []) number (Err Reserved)
 
 -- An entry of the row of an event's kind. A kind that is not in the table has zeros.
 unfoldable pub entry : Event → ℕ → ℕ

@@ -1,8 +1,8 @@
 -- The number that stands at a place of a trace.
-use Rattle.std.specs.Prelude.{ℕ, suc, ◌+◌, ◌*◌, ◌%◌, ◌<◌, Bool, cond, ◌&&◌, ◌||◌, List, [], ◌∷◌, eqb, leb, ltb, length, get_or, take, drop}
+use Rattle.std.specs.Prelude.{ℕ, suc, ◌+◌, ◌*◌, ◌%◌, ◌<◌, Bool, cond, ◌&&◌, ◌||◌, List, [], ◌∷◌, eqb, leb, ltb, length, get_or, take, drop, Result, Ok, Err}
+use Rattle.trace.specs.declared.Refusal.{Refusal}
 use Rattle.trace.specs.declared.Refusal.TheVariants.{BytesEnd, FormLong}
 use Rattle.trace.specs.declared.Number.{Number}
-use Rattle.trace.specs.declared.Number.TheVariants.{Value, Broken}
 
 -- These numbers are bytes: each is below 256. Only of such is it said that a number has one form.
 abbrev pub Bytes : List ℕ → Type 0
@@ -37,11 +37,15 @@ end_inside bytes = ltb (length bytes) (size bytes) && ltb (length bytes) most_gr
 abbrev pub too_long : List ℕ → Bool
 too_long bytes = ltb most_groups (size bytes) || (ltb 1 (size bytes) && eqb (group (get_or bytes (followed bytes) 0)) 0)
 
+-- The answer that there is a number, and which place is after it.
+abbrev pub number_then : ℕ → ℕ → Result Number Refusal
+number_then value next = Ok (record { value = value; next = next })
+
 -- The number that begins some bytes, the first of them at the given place: its value and the place after it, or code 3 or 4, tested in this order.
-unfoldable pub number_of : List ℕ → ℕ → Number
+unfoldable pub number_of : List ℕ → ℕ → Result Number Refusal
 number_of bytes at =
-    cond (end_inside bytes) (Broken BytesEnd) (cond (too_long bytes) (Broken FormLong) (Value (value (take (size bytes) bytes)) (at + size bytes)))
+    cond (end_inside bytes) (Err BytesEnd) (cond (too_long bytes) (Err FormLong) (number_then (value (take (size bytes) bytes)) (at + size bytes)))
 
 -- The number at a place of a trace. At its end, and past it, there are no bytes.
-unfoldable pub number_at : List ℕ → ℕ → Number
+unfoldable pub number_at : List ℕ → ℕ → Result Number Refusal
 number_at trace at = number_of (drop at trace) at

@@ -4,26 +4,13 @@
 
 ghost use Rattle.std.specs.Prelude.{◌≡◌, ◌<◌};
 ghost use Rattle.trace.specs.Numbers.{number_at};
-ghost use Rattle.trace.specs.Kinds.{entry, says_yes, largest_operand, lawful_holding, is_access, is_read, location};
+ghost use Rattle.trace.specs.Kinds.{kind_named, entry, says_yes, largest_operand, lawful_holding, is_access, is_read, location};
 ghost use Rattle.trace.specs.Events.{code_of, reading_at};
 
 // A number has at most this many groups of seven bits.
 pub const MOST_GROUPS: usize = 3;
 
-// The kinds that are no access, and the one that no event may have.
-pub const SPAWN: u32 = 0;
-
-pub const RETURN: u32 = 1;
-
-pub const SYNC: u32 = 2;
-
-pub const LOCK: u32 = 3;
-
-pub const UNLOCK: u32 = 4;
-
-pub const RESERVED: u32 = 7;
-
-// A row for each kind: largest operand, lawful with a lock held, access, read mark.
+// A row for each kind, a table of numbers as 01 asks for it: largest operand, lawful with a lock held, access, read mark.
 pub const KINDS: [[u32; 4]; 8] = [
     [0, 0, 0, 0],
     [0, 0, 0, 0],
@@ -36,126 +23,142 @@ pub const KINDS: [[u32; 4]; 8] = [
 ];
 
 // The number of an event, from 0. It names a place in the trace, and no procedure.
-#[derive(Clone, Copy)]
+#[derive(Clone, Copy, Debug, PartialEq, Eq)]
 pub struct EventNumber(pub u32);
 
-#[derive(Clone, Copy)]
+// An event. Its kind is a number, as C may give any to the writer; `Kind::try_from` says which kind that is.
+#[derive(Clone, Copy, Debug, PartialEq, Eq)]
 pub struct Event {
     pub kind: u32,
     pub operand: u32,
 }
 
-// Why no event stands at a place.
-#[derive(Clone, Copy)]
+// The kinds that an event may have, in the order of their numbers, from 0.
+#[derive(Clone, Copy, Debug, PartialEq, Eq)]
+pub enum Kind {
+    Spawn,
+    Return,
+    Sync,
+    Lock,
+    Unlock,
+    Read,
+    Write,
+}
+
+// Why no event stands at a place, each with the code that stands for it.
+#[derive(Clone, Copy, Debug, PartialEq, Eq)]
 pub enum Refusal {
-    BytesEnd,
-    FormLong,
-    Reserved,
-    OperandLarge,
+    BytesEnd = 3,
+    FormLong = 4,
+    Reserved = 5,
+    OperandLarge = 6,
 }
 
-// A number and the place after it, or why there is none.
-#[derive(Clone, Copy)]
-pub enum Number {
-    Value(u32, usize),
-    Broken(Refusal),
+// A number and the place after it.
+#[derive(Clone, Copy, Debug, PartialEq, Eq)]
+pub struct Number {
+    pub value: u32,
+    pub next: usize,
 }
 
-// An event and the place after it, or why there is none and the place itself.
-#[derive(Clone, Copy)]
-pub enum Reading {
-    Found(Event, usize),
-    Refused(Refusal, usize),
+// An event and the place after it.
+#[derive(Clone, Copy, Debug, PartialEq, Eq)]
+pub struct Found {
+    pub event: Event,
+    pub next: usize,
+}
+
+// Why there is no event, and the place itself.
+#[derive(Clone, Copy, Debug, PartialEq, Eq)]
+pub struct Refused {
+    pub why: Refusal,
+    pub at: usize,
+}
+
+// The kind that a number names.
+impl TryFrom<u32> for Kind {
+    type Error = Refusal;
+
+    ghost try_from_gives = { λ number result. result ≡ kind_named number };
+
+    fn try_from(number: u32) -> Result<Kind, Refusal> {
+        match number {
+            0 => Ok(Kind::Spawn),
+            1 => Ok(Kind::Return),
+            2 => Ok(Kind::Sync),
+            3 => Ok(Kind::Lock),
+            4 => Ok(Kind::Unlock),
+            5 => Ok(Kind::Read),
+            6 => Ok(Kind::Write),
+            _ => Err(Refusal::Reserved),
+        }
+    }
 }
 
 impl Refusal {
-    // The code that stands for the refusal.
     pub fn code(self) -> u32
         ensures { result ≡ code_of self }
     {
-        match self {
-            Refusal::BytesEnd => 3,
-            Refusal::FormLong => 4,
-            Refusal::Reserved => 5,
-            Refusal::OperandLarge => 6,
-        }
+        self as u32
     }
 }
 
 // The number that stands at a place.
-pub fn read_number(trace: &[u8], at: usize) -> Number
+#[tactic(auto, using(crate::proofs::Gathering::gathering))]
+pub fn read_number(trace: &[u8], at: usize) -> Result<Number, Refusal>
     ensures { result ≡ number_at trace.now at }
 {
     let mut next = at;
-    let mut value: u32 = 0;
-    let mut weight: u32 = 1;
-    let mut followed = 0;
-    while followed < MOST_GROUPS {
-        if trace.len() <= next {
-            return Number::Broken(Refusal::BytesEnd);
-        }
-        let byte = wide(trace[next]);
+    let mut value = 0;
+    let mut weight = 1;
+    for followed in 0..MOST_GROUPS {
+        let Some(&byte) = trace.get(next) else {
+            return Err(Refusal::BytesEnd);
+        };
         next += 1;
-        value += byte % 128 * weight;
+        value += u32::from(byte % 128) * weight;
         if byte < 128 {
             if byte == 0 && 0 < followed {
-                return Number::Broken(Refusal::FormLong);
+                return Err(Refusal::FormLong);
             }
-            return Number::Value(value, next);
+            return Ok(Number { value, next });
         }
         weight *= 128;
-        followed += 1;
     }
-    Number::Broken(Refusal::FormLong)
-}
-
-fn wide(x: u8) -> u32
-    ensures { result ≡ x }
-{
-    x as u32
+    Err(Refusal::FormLong)
 }
 
 // The event that stands at a place.
-pub fn read_event(trace: &[u8], at: usize) -> Reading
+#[tactic(auto, unfolding(crate::specs::Events::judged, crate::specs::Events::reading_at))]
+pub fn read_event(trace: &[u8], at: usize) -> Result<Found, Refused>
     ensures { result ≡ reading_at trace.now at }
 {
-    match read_number(trace, at) {
-        Number::Broken(why) => Reading::Refused(why, at),
-        Number::Value(value, next) => {
-            let event = Event {
-                kind: value % 8,
-                operand: value / 8,
-            };
-            let largest = event.largest_operand();
-            if event.kind == RESERVED {
-                return Reading::Refused(Refusal::Reserved, at);
-            }
-            if largest < event.operand {
-                return Reading::Refused(Refusal::OperandLarge, at);
-            }
-            Reading::Found(event, next)
-        }
+    let refused = |why| Refused { why, at };
+    let number = read_number(trace, at).map_err(refused)?;
+    let event = Event {
+        kind: number.value % 8,
+        operand: number.value / 8,
+    };
+    Kind::try_from(event.kind).map_err(refused)?;
+    if event.largest_operand() < event.operand {
+        return Err(refused(Refusal::OperandLarge));
     }
+    Ok(Found {
+        event,
+        next: number.next,
+    })
 }
 
 impl Event {
     // What the table says of the kind in a column; a kind that is not in the table has zeros.
+    #[tactic(auto, unfolding(crate::specs::Kinds::entry))]
     fn entry(self, column: usize) -> u32
         requires { column < 4 }
         ensures { result ≡ entry self column }
     {
-        let kind = self.kind;
-        // Row by row: the row that is wanted is then a constant, and nothing of the table is built at run time.
-        match kind {
-            0 => KINDS[0][column],
-            1 => KINDS[1][column],
-            2 => KINDS[2][column],
-            3 => KINDS[3][column],
-            4 => KINDS[4][column],
-            5 => KINDS[5][column],
-            6 => KINDS[6][column],
-            7 => KINDS[7][column],
-            _ => 0,
+        match KINDS.get(self.kind as usize) {
+            Some(row) => row[column],
+            None => 0,
         }
     }
 

@@ -7,13 +7,17 @@ use native.Mathlib.Omega.{arith}
 use lib.Dec.{leb, ltb}
 use lib.ListN.{length, length-append}
 use borrow.Author.Tests.{lt-ltb, le-ltb, le-leb, lt-leb, ltb-false, leb-false}
+use Rattle.std.specs.Prelude.{Result, Ok, Err, IsErrAnd}
 use Rattle.trace.specs.declared.Event.{Event}
+use Rattle.trace.specs.declared.Refusal.TheVariants.{BytesEnd, FormLong, Reserved, OperandLarge}
+use Rattle.trace.specs.Events.{code_of}
 use Rattle.trace.specs.Kinds.{as_number, reserved, largest_operand}
 use Rattle.trace.specs.Numbers.{most_groups}
 use Rattle.writer.specs.declared.Why.{Why}
-use Rattle.writer.specs.declared.Why.TheVariants.{Kind, Operand, Place}
+use Rattle.writer.specs.declared.Why.TheVariants.{Unreadable, Place}
 use Rattle.writer.specs.Form.{groups, bytes_of, bytes_of_all}
-use Rattle.writer.specs.Contract.{code_for, event_code, first_refused, list_code, next_place}
+use Rattle.writer.specs.Contract.{code_for, event_code, first_refused, list_code}
+use Rattle.writer.specs.Parts.{Judged}
 
 -- ---- one event
 
@@ -24,20 +28,20 @@ pub record Fits (room at : ℕ) (e : Event) : Type 0 where
   pub inside : at + length (bytes_of e) ≤ room
 
 module _ (room at : ℕ) (e : Event) where
-  kind_refused : reserved ≤ e.kind → code_for Kind ≡ event_code room at e
+  pub kind_refused : reserved ≤ e.kind → event_code room at e ≡ code_of Reserved
   unfolding event_code
   kind_refused above = rw (le-leb reserved e.kind above)
 
-  operand_refused : e.kind < reserved → largest_operand e < e.operand → code_for Operand ≡ event_code room at e
+  pub operand_refused : e.kind < reserved → largest_operand e < e.operand → event_code room at e ≡ code_of OperandLarge
   unfolding event_code
   operand_refused kind above = rw (lt-leb reserved e.kind kind, lt-ltb (largest_operand e) e.operand above)
 
-  place_refused : e.kind < reserved → e.operand ≤ largest_operand e → room < at + length (bytes_of e) → code_for Place ≡ event_code room at e
+  pub place_refused : e.kind < reserved → e.operand ≤ largest_operand e → room < at + length (bytes_of e) → event_code room at e ≡ code_for Place
   unfolding event_code
   place_refused kind operand outside =
       rw (lt-leb reserved e.kind kind, le-ltb (largest_operand e) e.operand operand, lt-ltb room (at + length (bytes_of e)) outside)
 
-  pub not_refused : Fits room at e → 0 ≡ event_code room at e
+  pub not_refused : Fits room at e → event_code room at e ≡ 0
   unfolding event_code
   not_refused f =
       rw (lt-leb reserved e.kind f.kind, le-ltb (largest_operand e) e.operand f.operand, le-ltb room (at + length (bytes_of e)) f.inside)
@@ -47,55 +51,40 @@ module _ (room at : ℕ) (e : Event) where
   fits none = go (leb reserved e.kind) (ltb (largest_operand e) e.operand) (ltb room (at + length (bytes_of e))) refl refl refl none
     where
       go : (k o p : Bool) → leb reserved e.kind ≡ k → ltb (largest_operand e) e.operand ≡ o → ltb room (at + length (bytes_of e)) ≡ p
-          → cond k (code_for Kind) (cond o (code_for Operand) (cond p (code_for Place) 0)) ≡ 0 → Fits room at e
+          → cond k (code_of Reserved) (cond o (code_of OperandLarge) (cond p (code_for Place) 0)) ≡ 0 → Fits room at e
       go true o p f g h z = omega arith
       go false true p f g h z = omega arith
       go false false true f g h z = omega arith
       go false false false f g h z = record { kind = leb-false _ _ f; operand = ltb-false _ _ g; inside = ltb-false _ _ h }
-
--- what is given for it, the size of its number being known
-abbrev pub JudgedEvent : ℕ → ℕ → Event → ℕ → ℕ → Type 0
-JudgedEvent room at e code next = (code ≡ event_code room at e) × (next ≡ next_place code at (e ∷ []))
-
-pub next_of_one : (at : ℕ) (e : Event) → next_place 0 at (e ∷ []) ≡ at + length (bytes_of e)
-unfolding bytes_of_all next_place
-next_of_one at e = ap (◌+◌ at) (length-append (bytes_of e) [] ∙ omega arith)
-
--- a refusal gives its code and the place as it was
-abbrev pub Refused : Why → ℕ → ℕ → ℕ → Type 0
-Refused why at code next = (code ≡ code_for why) × (next ≡ at)
-
-module _ (room at : ℕ) (e : Event) (code next : ℕ) where
-  pub judged_kind : Refused Kind at code next → reserved ≤ e.kind → JudgedEvent room at e code next
-  unfolding next_place
-  judged_kind is above = rw (is.0, is.1) (kind_refused room at e above, refl)
-
-  module _ (kind : e.kind < reserved) where
-    pub judged_operand : Refused Operand at code next → largest_operand e < e.operand → JudgedEvent room at e code next
-    unfolding next_place
-    judged_operand is above = rw (is.0, is.1) (operand_refused room at e kind above, refl)
-
-    module _ (operand : e.operand ≤ largest_operand e) where
-      pub judged_outside : Refused Place at code next → room < at + length (bytes_of e) → JudgedEvent room at e code next
-      unfolding next_place
-      judged_outside is outside = rw (is.0, is.1) (place_refused room at e kind operand outside, refl)
-
-      pub judged_inside : code ≡ 0 → next ≡ at + length (bytes_of e) → next ≤ room → JudgedEvent room at e code next
-      judged_inside none is inside =
-          rw none
-          (not_refused room at e (record { kind = kind; operand = operand; inside = rw is at inside }), is ∙ sym (next_of_one at e))
 
 -- the bytes of an event are the groups of its number
 pub size_known : (e : Event) (number size : ℕ) → number ≡ as_number e → size ≡ length (groups most_groups number) → size ≡ length (bytes_of e)
 unfolding bytes_of
 size_known e number size is takes = takes ∙ ap (λ (n : ℕ). length (groups most_groups n)) is
 
+-- no refusal has code 0
+pub code_some : (why : Why) → code_for why ≡ 0 → ⊥
+code_some (Unreadable BytesEnd) none = omega arith
+code_some (Unreadable FormLong) none = omega arith
+code_some (Unreadable Reserved) none = omega arith
+code_some (Unreadable OperandLarge) none = omega arith
+code_some Place none = omega arith
+
+-- a refusal that is handed on
+pub handed_on : (code next : ℕ) (r : Result ℕ Why) (why : Why) → IsErrAnd r (λ w. w ≡ why) → code ≡ code_for why → Judged code next r
+handed_on code next (Ok place) why handed is = absurd handed
+handed_on code next (Err w) why handed is = is ∙ ap code_for (sym handed)
+
 -- ---- a list
 
 module _ (room at : ℕ) (e : Event) (es : List Event) where
-  pub first_refused_lem : (c : ℕ) → event_code room at e ≡ suc c → suc c ≡ list_code room at (e ∷ es)
+  pub first_stops : (why : Why) → event_code room at e ≡ code_for why → list_code room at (e ∷ es) ≡ code_for why
   unfolding list_code
-  first_refused_lem c is = rw is
+  first_stops why is = go (code_for why) (code_some why) is
+    where
+      go : (c : ℕ) → (c ≡ 0 → ⊥) → event_code room at e ≡ c → first_refused (event_code room at e) (list_code room (at + length (bytes_of e)) es) ≡ c
+      go zero some is = absurd (some refl)
+      go (suc c) some is = rw is
 
   pub first_passes : event_code room at e ≡ 0 → list_code room at (e ∷ es) ≡ list_code room (at + length (bytes_of e)) es
   unfolding list_code
@@ -109,11 +98,11 @@ module _ (room at : ℕ) (e : Event) (es : List Event) where
       go zero z = (refl, z)
       go (suc c) z = absurd (omega arith)
 
-pub empty_fits : (room at : ℕ) → at ≤ room → 0 ≡ list_code room at []
+pub empty_fits : (room at : ℕ) → at ≤ room → list_code room at [] ≡ 0
 unfolding list_code
 empty_fits room at inside = rw (le-ltb room at inside)
 
-pub empty_refused : (room at : ℕ) → room < at → code_for Place ≡ list_code room at []
+pub empty_refused : (room at : ℕ) → room < at → list_code room at [] ≡ code_for Place
 unfolding list_code
 empty_refused room at outside = rw (lt-ltb room at outside)
 

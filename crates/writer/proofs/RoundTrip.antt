@@ -11,21 +11,18 @@ use lib.Dec.{lit<}
 use lib.ListN.{length, get_or, take, drop, length-append, length-drop, get_or-append}
 use lib.Seq.{get_or-drop, get_or-take, get_or-append-add, drop-drop, take-add, take_all, drop-append_seam, drop_at, take_at, length-take-le}
 use Rattle.trace.specs.declared.Event.{Event}
-use Rattle.trace.specs.declared.Number.TheVariants.{Value}
-use Rattle.trace.specs.declared.Reading.TheVariants.{Found}
-use Rattle.trace.specs.Numbers.{Bytes, most_groups, number_at}
+use Rattle.trace.specs.Numbers.{Bytes, most_groups, number_then, number_at}
 use Rattle.trace.specs.Kinds.{as_number, reserved, largest_operand}
-use Rattle.trace.specs.Events.{reading_at}
+use Rattle.trace.specs.Events.{event_then, reading_at}
 use Rattle.trace.proofs.Laws.{found}
 use Rattle.trace.proofs.FromBytes.{last_group as last-read, group_before, event_there}
 use Rattle.trace.proofs.OneForm.{one_form}
 use Rattle.writer.specs.declared.Written.{Written}
-use Rattle.writer.specs.declared.Judged.{Judged}
+use Rattle.writer.specs.declared.Why.{Why}
 use Rattle.writer.specs.Form.{groups, bytes_of, bytes_of_all}
-use Rattle.writer.specs.Contract.{event_code, list_code, next_place, overwritten, buffer_after, ReadAs, Wrote}
+use Rattle.writer.specs.Contract.{code_for, event_code, list_code, next_place, overwritten, buffer_after, ReadAs, Wrote}
 use Rattle.writer.specs.Lists.{events_in, numbers_of}
-use Rattle.writer.specs.Parts.{AllJudged}
-use Rattle.writer.proofs.Codes.{JudgedEvent, next_of_one, one_alone, fits, not_refused, first_passes, all_pass, empty_fits, list_inside}
+use Rattle.writer.proofs.Codes.{code_some, one_alone, fits, not_refused, first_passes, all_pass, empty_fits, list_inside}
 use Rattle.writer.proofs.Groups.{last_group, next_group, rest_small, groups_few, number_small}
 
 -- ---- a place whose bytes are known
@@ -49,13 +46,13 @@ begins trace at byte bytes is =
 -- ---- what is written is read back
 
 last_back : (more number : ℕ) (trace : List ℕ) (at : ℕ) (others : List ℕ) → number < 128 → drop at trace ≡ groups (suc more) number ++ others
-    → number_at trace at ≡ Value number (at + length (groups (suc more) number))
+    → number_at trace at ≡ number_then number (at + length (groups (suc more) number))
 last_back more number trace at others low is =
     let b : Begins trace at number others = begins trace at number others (is ∙ ap (λ (l : List ℕ). l ++ others) (last_group more number low)) in
-    last-read trace at b.there (rw b.first low) ∙ ap₂ Value b.first (rw (last_group more number low) (omega arith))
+    last-read trace at b.there (rw b.first low) ∙ ap₂ number_then b.first (rw (last_group more number low) (omega arith))
 
 number_back : (more number : ℕ) (trace : List ℕ) (at : ℕ) (others : List ℕ) → number < 128 ^ suc more → suc more ≤ most_groups
-    → drop at trace ≡ groups (suc more) number ++ others → number_at trace at ≡ Value number (at + length (groups (suc more) number))
+    → drop at trace ≡ groups (suc more) number ++ others → number_at trace at ≡ number_then number (at + length (groups (suc more) number))
 number_back zero number trace at others small few is = last_back zero number trace at others small is
 number_back (suc more) number trace at others small few is =
     elim (dec_lt number 128) [
@@ -68,11 +65,11 @@ number_back (suc more) number trace at others small few is =
           let back = number_back more (number / 128) trace (suc at) others (rest_small (suc more) number small) (omega arith) b.others in
           let short : length left ≤ suc more = groups_few (suc more) (number / 128) in
           group_before trace at b.there (number / 128) (suc at + length left) (rw b.first (omega arith)) back (omega arith) (omega arith)
-          ∙ ap₂ Value (rw b.first (omega arith)) (rw form (omega arith))
+          ∙ ap₂ number_then (rw b.first (omega arith)) (rw form (omega arith))
     ]
 
 event_back : (trace : List ℕ) (at : ℕ) (e : Event) (others : List ℕ) → e.kind < reserved → e.operand ≤ largest_operand e
-    → drop at trace ≡ bytes_of e ++ others → reading_at trace at ≡ Found e (at + length (bytes_of e))
+    → drop at trace ≡ bytes_of e ++ others → reading_at trace at ≡ event_then e (at + length (bytes_of e))
 unfolding bytes_of
 event_back trace at e others kind operand is =
     event_there trace at e (at + length (groups most_groups (as_number e)))
@@ -112,7 +109,7 @@ group_bytes (suc more) number =
           (byte_before (128 + number % 128) (groups more (number / 128)) (omega arith) (group_bytes more (number / 128)))
     ]
 
-event_again : (trace : List ℕ) (at : ℕ) (e : Event) (after : ℕ) → Bytes trace → reading_at trace at ≡ Found e after
+event_again : (trace : List ℕ) (at : ℕ) (e : Event) (after : ℕ) → Bytes trace → reading_at trace at ≡ event_then e after
     → bytes_of e ≡ take (after - at) (drop at trace)
 unfolding bytes_of
 event_again trace at e after bytes is =
@@ -123,7 +120,7 @@ event_again trace at e after bytes is =
     (one_form trace form at 0 (as_number e) after (0 + length form) bytes (group_bytes most_groups (as_number e)) f.number back
     ∙ take_all (0 + length form - 0) form (omega arith))
 
-event_long : (trace : List ℕ) (at : ℕ) (e : Event) (after : ℕ) → Bytes trace → reading_at trace at ≡ Found e after
+event_long : (trace : List ℕ) (at : ℕ) (e : Event) (after : ℕ) → Bytes trace → reading_at trace at ≡ event_then e after
     → at + length (bytes_of e) ≡ after
 event_long trace at e after bytes is =
     let f = found trace at e after is in
@@ -151,13 +148,13 @@ again trace at next (e ∷ es) bytes (after, is, rest) =
 passes_again : (trace : List ℕ) (at next : ℕ) (es : List Event) → Bytes trace → ReadAs trace at es next
     → (room at' : ℕ) → at' + (next - at) ≤ room → list_code room at' es ≡ 0
 unfolding ReadAs
-passes_again trace at next [] bytes e room at' inside = sym (empty_fits room at' (omega arith))
+passes_again trace at next [] bytes e room at' inside = empty_fits room at' (omega arith)
 passes_again trace at next (e ∷ es) bytes (after, is, rest) room at' inside =
     let f = found trace at e after is in
     let long = event_long trace at e after bytes is in
     let later = (again trace after next es bytes rest).0 in
     let passes = not_refused room at' e (record { kind = f.kind; operand = f.operand; inside = omega arith }) in
-    first_passes room at' e es (sym passes) ∙ passes_again trace after next es bytes rest room (at' + length (bytes_of e)) (omega arith)
+    first_passes room at' e es passes ∙ passes_again trace after next es bytes rest room (at' + length (bytes_of e)) (omega arith)
 
 -- ---- so the contract is met where code, place and buffer are as they should be
 
@@ -225,29 +222,36 @@ module _ (es : List Event) (before : List ℕ) (at : ℕ) (r : Written) (after :
       place zero some = absurd (some refl)
       place (suc c) some = refl
 
--- one event is a list of one
-module _ (e : Event) (before : List ℕ) (at : ℕ) (r : Written) (after : List ℕ) where
-  pub wrote_one : r.code ≡ 0 → event_code (length before) at e ≡ 0
-      → (r.next ≡ at + length (bytes_of e)) × (after ≡ overwritten before at (bytes_of e)) → Wrote (e ∷ []) before at r after
+-- so what is given for a judged list, and what for an event, which is a list of one
+module _ (es : List Event) (before : List ℕ) (at : ℕ) {after : List ℕ} where
+  pub wrote_list : {next : ℕ} → (list_code (length before) at es ≡ 0) × (next ≡ at + length (bytes_of_all es))
+      → after ≡ overwritten before at (bytes_of_all es) → Wrote es before at (record { code = 0; next = next }) after
+  unfolding next_place
+  wrote_list {next} judged left = wrote_all es before at (record { code = 0; next = next }) after (sym judged.0) judged.1 refl left
+
+  pub refused_list : (why : Why) → list_code (length before) at es ≡ code_for why → (r : Written) → (r.code ≡ code_for why) × (r.next ≡ at)
+      → after ≡ before → Wrote es before at r after
+  unfolding next_place
+  refused_list why judged r is kept =
+      let some : r.code ≢ 0 = λ none. code_some why (sym is.0 ∙ none) in
+      wrote_none es before at r after (is.0 ∙ sym judged) (is.1 ∙ sym (place r.code some)) some kept
+    where
+      place : (c : ℕ) → c ≢ 0 → next_place c at es ≡ at
+      place zero some = absurd (some refl)
+      place (suc c) some = refl
+
+module _ (e : Event) (before : List ℕ) (at : ℕ) {after : List ℕ} where
+  pub wrote_one : {next : ℕ} → (event_code (length before) at e ≡ 0) × (next ≡ at + length (bytes_of e))
+      → after ≡ overwritten before at (bytes_of e) → Wrote (e ∷ []) before at (record { code = 0; next = next }) after
   unfolding bytes_of_all
-  wrote_one none passes put =
-      let place : r.next ≡ next_place r.code at (e ∷ []) = put.0 ∙ sym (next_of_one at e) ∙ sym (ap (λ (c : ℕ). next_place c at (e ∷ [])) none) in
-      wrote_all (e ∷ []) before at r after (none ∙ sym (one_alone (length before) at e ∙ passes)) place none
-      (put.1 ∙ ap (overwritten before at) (sym (append-nil (bytes_of e))))
+  wrote_one judged left =
+      let one : bytes_of e ++ [] ≡ bytes_of e = append-nil (bytes_of e) in
+      wrote_list (e ∷ []) before at (one_alone (length before) at e ∙ judged.0, judged.1 ∙ ap (λ (l : List ℕ). at + length l) (sym one))
+      (left ∙ ap (overwritten before at) (sym one))
 
-  pub refused_one : JudgedEvent (length before) at e r.code r.next → r.code ≢ 0 → after ≡ before → Wrote (e ∷ []) before at r after
-  refused_one judged = wrote_none (e ∷ []) before at r after (judged.0 ∙ sym (one_alone (length before) at e)) judged.1
-
--- a list of numbers, of which the first that pass were written
-module _ (numbers before : List ℕ) (at : ℕ) (r : Judged) (after : List ℕ) (judged : AllJudged (length before) at numbers r) where
-  pub wrote_list : r.written.code ≡ 0 → after ≡ overwritten before at (bytes_of_all (take r.passed (events_in numbers)))
-      → Wrote (events_in numbers) before at r.written after
-  wrote_list none left =
-      wrote_all (events_in numbers) before at r.written after judged.code judged.next none
-      (left ∙ ap (λ (es : List Event). overwritten before at (bytes_of_all es)) (judged.all none))
-
-  pub refused_list : r.written.code ≢ 0 → after ≡ before → Wrote (events_in numbers) before at r.written after
-  refused_list = wrote_none (events_in numbers) before at r.written after judged.code judged.next
+  pub refused_one : (why : Why) → event_code (length before) at e ≡ code_for why → (r : Written) → (r.code ≡ code_for why) × (r.next ≡ at)
+      → after ≡ before → Wrote (e ∷ []) before at r after
+  refused_one why judged = refused_list (e ∷ []) before at why (one_alone (length before) at e ∙ judged)
 
 -- ---- every list of events can be lent as numbers
 

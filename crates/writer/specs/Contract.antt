@@ -2,27 +2,25 @@
 use Rattle.std.specs.Prelude.{ℕ, zero, suc, ◌+◌, ◌-◌, ◌≤◌, ◌<◌, ◌≡◌, ◌≢◌, ◌⊎◌, cond, List, [], ◌∷◌, ◌++◌, leb, ltb, length, get_or, take, drop}
 use Rattle.trace.specs.declared.Event.{Event}
 use Rattle.trace.specs.declared.Refusal.TheVariants.{Reserved, OperandLarge}
-use Rattle.trace.specs.declared.Reading.TheVariants.{Found}
 use Rattle.trace.specs.Numbers.{Bytes}
 use Rattle.trace.specs.Kinds.{reserved, largest_operand}
-use Rattle.trace.specs.Events.{code_of, reading_at}
+use Rattle.trace.specs.Events.{code_of, event_then, reading_at}
 use Rattle.writer.specs.declared.Why.{Why}
-use Rattle.writer.specs.declared.Why.TheVariants.{Kind, Operand, Place}
+use Rattle.writer.specs.declared.Why.TheVariants.{Unreadable, Place}
 use Rattle.writer.specs.declared.Written.{Written}
 use Rattle.writer.specs.Form.{bytes_of, bytes_of_all}
 
--- The number of each refusal: 5 for kinds above 6, 6 as in 01, and 15 where the bytes don't fit or the place lies past the end.
+-- The number of each refusal: 5 for kinds above 6 and 6 as in 01, and 15 where the bytes don't fit or the place lies past the end.
 abbrev pub code_for : Why → ℕ
-code_for Kind = code_of Reserved
-code_for Operand = code_of OperandLarge
+code_for (Unreadable refusal) = code_of refusal
 code_for Place = 15
 
 -- One event, from a place on in a buffer of so many bytes: the refusals in this order, or 0. As an event has a byte at least, it does not fit where
 -- the place lies past the end.
 unfoldable pub event_code : ℕ → ℕ → Event → ℕ
 event_code room at e =
-    cond (leb reserved e.kind) (code_for Kind)
-    (cond (ltb (largest_operand e) e.operand) (code_for Operand)
+    cond (leb reserved e.kind) (code_of Reserved)
+    (cond (ltb (largest_operand e) e.operand) (code_of OperandLarge)
     (cond (ltb room (at + length (bytes_of e))) (code_for Place) 0))
 
 -- In a list the first event refused decides, and an empty one is refused for its place alone.
@@ -51,7 +49,7 @@ buffer_after (suc c) buffer at es = buffer
 -- The reader reads these events from a place on, one after the other, and `next` is the place after the last.
 unfoldable pub ReadAs : List ℕ → ℕ → List Event → ℕ → Type 0
 ReadAs trace at [] next = at ≡ next
-ReadAs trace at (e ∷ es) next = (after : ℕ) × (reading_at trace at ≡ Found e after) × ReadAs trace after es next
+ReadAs trace at (e ∷ es) next = (after : ℕ) × (reading_at trace at ≡ event_then e after) × ReadAs trace after es next
 
 -- What writing a list of events from a place of a buffer on promises; one event is a list of one. The first three parts fix everything. The others
 -- say, in the words of the request, that what they fix is what was asked for. What is written, the reader reads back as the same events, whatever comes

@@ -1,34 +1,41 @@
 // The writer to put under a recorder: events into a lent buffer, each in the one form that the reader accepts.
 #![tactic(auto)]
 
-ghost use Rattle.std.specs.Prelude.{◌≡◌, ◌∷◌, [], ◌+◌, ◌*◌, ◌^◌, ◌≤◌, ◌<◌, length, take};
+ghost use Rattle.std.specs.Prelude.{◌≡◌, ◌∷◌, [], ◌+◌, ◌*◌, ◌^◌, ◌≤◌, ◌<◌, length};
 ghost use Rattle.trace.specs.Numbers.{most_groups};
 ghost use Rattle.trace.specs.Kinds.{as_number, reserved, largest_operand};
 ghost use Rattle.writer.specs.Form.{groups, bytes_of, bytes_of_all};
 ghost use Rattle.writer.specs.Lists.{events_in};
-ghost use Rattle.writer.specs.Contract.{code_for, event_code, next_place, overwritten, Wrote};
-ghost use Rattle.writer.specs.Parts.{event_at, Pass, AllJudged};
+ghost use Rattle.writer.specs.Contract.{code_for, event_code, list_code, overwritten, Wrote};
+ghost use Rattle.writer.specs.Parts.{Judged};
+ghost use Rattle.writer.specs.declared.Why.TheVariants.{Unreadable};
 
-use trace::{Event, RESERVED, Refusal};
+use trace::{Event, Kind, Refusal};
 
-// The operand of a last kind that has none in its list: above every largest.
-const NO_OPERAND: u32 = 4294967295;
+// The operand of a last kind that has none in its list: above every largest, since an event has a number there.
+const NO_OPERAND: u32 = u32::MAX;
 
-// The code and the next place, on a refusal the given one.
+// The code and the next place, on a refusal the given one, as C gets them.
 #[repr(C)]
-#[derive(Clone, Copy)]
+#[derive(Clone, Copy, Debug, PartialEq, Eq)]
 pub struct Written {
     pub code: u32,
     pub next: usize,
 }
 
-// Why an event or a list is refused: for a kind, for an operand, or because the bytes don't fit or the place lies past
-// the end.
-#[derive(Clone, Copy)]
+// Why an event or a list is refused: the reader would refuse it too, or the bytes don't fit or the place lies past the end.
+#[derive(Clone, Copy, Debug, PartialEq, Eq)]
 enum Why {
-    Kind,
-    Operand,
+    Unreadable(Refusal),
     Place,
+}
+
+impl From<Refusal> for Why {
+    ghost from_gives = { λ refusal why. why ≡ Unreadable refusal };
+
+    fn from(refusal: Refusal) -> Why {
+        Why::Unreadable(refusal)
+    }
 }
 
 impl Why {
@@ -36,8 +43,7 @@ impl Why {
         ensures { result ≡ code_for self }
     {
         match self {
-            Why::Kind => Refusal::Reserved.code(),
-            Why::Operand => Refusal::OperandLarge.code(),
+            Why::Unreadable(refusal) => refusal.code(),
             Why::Place => 15,
         }
     }
@@ -57,18 +63,13 @@ fn refused(why: Why, at: usize) -> Written
 pub fn write_event(buffer: &mut [u8], at: usize, kind: u32, operand: u32) -> Written
     ensures { Wrote (record { kind = kind; operand = operand } ∷ []) buffer.old at result buffer.new }
 {
-    let event = Event {
-        kind: kind,
-        operand: operand,
-    };
-    let written = judge(buffer.len(), at, event);
-    if written.code != 0 {
-        return written;
-    }
-    let next = put(buffer, at, event);
-    Written {
-        code: 0,
-        next: next,
+    let event = Event { kind, operand };
+    match judge(buffer.len(), at, event) {
+        Ok(next) => {
+            put(buffer, at, event);
+            Written { code: 0, next }
+        }
+        Err(why) => refused(why, at),
     }
 }
 
@@ -76,12 +77,13 @@ pub fn write_event(buffer: &mut [u8], at: usize, kind: u32, operand: u32) -> Wri
 pub fn write_events(buffer: &mut [u8], at: usize, events: &[u32]) -> Written
     ensures { Wrote (events_in events.now) buffer.old at result buffer.new }
 {
-    let judged = judge_all(buffer.len(), at, events);
-    let all = judged.written;
-    if all.code == 0 {
-        put_first(buffer, at, events, judged.passed);
+    match judge_all(buffer.len(), at, events) {
+        Ok(next) => {
+            put_all(buffer, at, events);
+            Written { code: 0, next }
+        }
+        Err(why) => refused(why, at),
     }
-    all
 }
 
 // The number of an event that the table allows.
@@ -107,28 +109,23 @@ fn size_of(number: u32) -> usize
     size
 }
 
-// What an event gets from a place on in so much room.
-fn judge(room: usize, at: usize, event: Event) -> Written
-    ensures { (result.code ≡ event_code room at event) × (result.next ≡ next_place result.code at (event ∷ [])) }
+// Where the next event goes after one that is put at a place in so much room, or why that one is refused.
+#[tactic(auto, using(crate::proofs::Codes::operand_refused, crate::proofs::Codes::place_refused))]
+fn judge(room: usize, at: usize, event: Event) -> Result<usize, Why>
+    ensures { Judged (event_code room at event) (at + length (bytes_of event)) result }
 {
-    if RESERVED <= event.kind {
-        return refused(Why::Kind, at);
-    }
-    let largest = event.largest_operand();
-    if largest < event.operand {
-        return refused(Why::Operand, at);
+    Kind::try_from(event.kind)?;
+    if event.largest_operand() < event.operand {
+        return Err(Why::Unreadable(Refusal::OperandLarge));
     }
     if room < at {
-        return refused(Why::Place, at);
+        return Err(Why::Place);
     }
     let size = size_of(number_of(event));
     if size <= room - at {
-        return Written {
-            code: 0,
-            next: at + size,
-        };
+        return Ok(at + size);
     }
-    refused(Why::Place, at)
+    Err(Why::Place)
 }
 
 // Writes an event that is not refused, and says where the next one goes.
@@ -147,83 +144,39 @@ fn put(buffer: &mut [u8], at: usize, event: Event) -> usize
     next + 1
 }
 
-// Event i of a list.
-fn event_at(events: &[u32], i: usize) -> Event
-    requires { 2 * i + 1 < length events.now }
-    ensures { result ≡ event_at events.now i }
+// The same of a list of events. It is as numbers, a kind and an operand in turn; a last kind may have no operand.
+fn judge_all(room: usize, at: usize, events: &[u32]) -> Result<usize, Why>
+    ensures { Judged (list_code room at (events_in events.now)) (at + length (bytes_of_all (events_in events.now))) result }
 {
-    Event {
-        kind: events[2 * i],
-        operand: events[2 * i + 1],
+    let (pairs, last) = events.as_chunks::<2>();
+    let mut next = at;
+    for &[kind, operand] in pairs {
+        next = judge(room, next, Event { kind, operand })?;
     }
-}
-
-// What a list gets from a place on in so much room, and how many of its events pass before the first that is refused.
-#[derive(Clone, Copy)]
-struct Judged {
-    written: Written,
-    passed: usize,
-}
-
-fn judge_all(room: usize, from: usize, events: &[u32]) -> Judged
-    ensures { AllJudged room from events.now result }
-{
-    let count = events.len() / 2;
-    let mut next = from;
-    let mut i = 0;
-    while i < count {
-        let written = judge(room, next, event_at(events, i));
-        if written.code != 0 {
-            return Judged {
-                written: Written {
-                    code: written.code,
-                    next: from,
-                },
-                passed: i,
-            };
-        }
-        next = written.next;
-        i += 1;
-    }
-    if events.len() % 2 == 1 {
-        let last = Event {
-            kind: events[2 * i],
-            operand: NO_OPERAND,
-        };
-        let written = judge(room, next, last);
-        return Judged {
-            written: Written {
-                code: written.code,
-                next: from,
+    if let Some(&kind) = last.first() {
+        return judge(
+            room,
+            next,
+            Event {
+                kind,
+                operand: NO_OPERAND,
             },
-            passed: i,
-        };
+        );
     }
     if room < next {
-        return Judged {
-            written: refused(Why::Place, from),
-            passed: i,
-        };
+        return Err(Why::Place);
     }
-    Judged {
-        written: Written {
-            code: 0,
-            next: next,
-        },
-        passed: i,
-    }
+    Ok(next)
 }
 
-// Writes the first events of a list, none of which is refused.
-fn put_first(buffer: &mut [u8], at: usize, events: &[u32], count: usize)
-    requires count_in_bounds { 2 * count ≤ length events.now }
-    requires pass { Pass (length buffer.old) at (take count (events_in events.now)) }
-    ensures { buffer.new ≡ overwritten buffer.old at (bytes_of_all (take count (events_in events.now))) }
+// Writes a list of events, none of which is refused.
+fn put_all(buffer: &mut [u8], at: usize, events: &[u32])
+    requires { list_code (length buffer.old) at (events_in events.now) ≡ 0 }
+    ensures { buffer.new ≡ overwritten buffer.old at (bytes_of_all (events_in events.now)) }
 {
+    let (pairs, _) = events.as_chunks::<2>();
     let mut next = at;
-    let mut i = 0;
-    while i < count {
-        next = put(buffer, next, event_at(events, i));
-        i += 1;
+    for &[kind, operand] in pairs {
+        next = put(buffer, next, Event { kind, operand });
     }
 }

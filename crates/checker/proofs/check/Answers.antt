@@ -1,5 +1,7 @@
 -- `check` refuses, or reads the trace and clears the room: each way out is a law of `ContractMet`. Assumes nothing.
-use Rattle.kept.specs.Pieces.{pieces}
+use mathlib.Core.Path.{◌∙◌}
+use borrow.Author.Rules.{rules}
+use Rattle.kept.proofs.Laws.{cleared_whole}
 use Rattle.checker.proofs.ContractMet.{short_refused, long_refused, read_and_cleared}
 use Rattle.checker.proofs.check.Goals as goal
 
@@ -13,14 +15,10 @@ returns-then-trace-gt-MOST_BYTES c = record {
 
 pub returns : goal.returns
 returns c =
-    let given = c.args in
-    let last = c.examine-answer.new in
     let done = c.examine-answer.ensures in
-    let zero = c.clear.ensures in
     record {
       contract =
-          read_and_cleared _ _ _ (pieces given.heads.now given.links.now given.events.now given.procedures.now given.sets.now)
-          (pieces last.heads last.links last.events last.procedures last.sets) _ _ _ _ done.rests _ _ _ _ _ _ _ _ c.if-short.false
-          c.if-trace-gt-MOST_BYTES.false done.result done.report zero.heads zero.links zero.events zero.procedures zero.sets
-          c.clear_numbers.ensures c.clear_numbers-2.ensures;
+          read_and_cleared _ _ _ _ c.examine-answer.new.lists _ c.examine-answer.new.runs done.rests _ _ _ _ _ _ _ _ c.if-short.false
+          c.if-trace-gt-MOST_BYTES.false done.result done.report (search rules) (search rules) (search rules) (search rules) (search rules)
+          (search (rules, c.clear_piece.ensures ∙ cleared_whole 4096 c.examine-answer.new.runs.starts.now)) (search (rules, c.clear_piece-2.ensures ∙ cleared_whole 4096 c.examine-answer.new.runs.joins.now));
     }
