@@ -1,4 +1,4 @@
--- The search inside `ask`: what is known above the places that are tried, kept from place to place, until the one that is sought is found. Assumes nothing.
+-- The search inside `ask`: what is known above the places that are tried one by one, and what halving the rest finds. Assumes nothing.
 use Prim.Native.Nat.{ℕ, suc, ◌-◌, ◌≤◌, ◌<◌}
 use mathlib.Core.Path.{◌≡◌, sym, ap, ◌∙◌}
 use mathlib.Core.List.{List}

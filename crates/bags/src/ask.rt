@@ -97,7 +97,7 @@ fn place_of(starts: &[u32], top: usize, p: u32) -> usize
     ensures { Found starts.now top p result }
 {
     let mut at = usize::min(top - 1, p as usize);
-    let floor = at - usize::min(at, NEAR);
+    let floor = at.saturating_sub(NEAR);
     while floor < at {
         if starts[at] <= p {
             return at;

@@ -113,7 +113,7 @@ impl Runs<'_> {
         ensures lent { SameLoans self.old self.new }
     {
         let count = self.pairs.count;
-        let at = count - usize::min(count, 2);
+        let at = count.saturating_sub(2);
         self.pairs.count = count - 1;
         self.pairs.start = self.starts[at];
         self.pairs.join = self.joins[at];

@@ -7,8 +7,12 @@ use mathlib.Core.Bool.{Bool, true, false, not, ◌&&◌, ◌||◌, true≢false}
 use native.Mathlib.Omega.{arith}
 use lib.Dec.{eqb}
 use borrow.Author.Tests.{eqb-true, ne_eqb, not-true, not-false}
+use Rattle.std.specs.Prelude.{Ok}
 use Rattle.trace.specs.declared.Event.{Event}
-use Rattle.trace.specs.Kinds.{is_spawn, is_locking, is_unlocking, entry, lawful_holding, is_access}
+use Rattle.trace.specs.declared.Kind.{Kind}
+use Rattle.trace.specs.declared.Kind.TheVariants.{Lock, Unlock}
+use Rattle.trace.specs.Kinds.{is_spawn, is_locking, is_unlocking, kind_named, entry, lawful_holding, is_access}
+use Rattle.trace.proofs.Laws.{named_other}
 use Rattle.bags.specs.Parallel.{return, other}
 use Rattle.checker.specs.Events.{act_of, held_after}
 
@@ -50,7 +54,7 @@ unfolding held_after
 access_holds_the_same e set access = rw (access_locks_not e access, access_unlocks_not e access) refl
 
 pub access_is_no_return : (e : Event) → is_access e ≡ true → act_of e ≢ return
-access_is_no_return e access returns = let z : other ≡ return = sym (access_acts_not e access) ∙ returns in let y : ◌≡◌ {A = ℕ} 0 1 = cc in omega arith
+access_is_no_return e access returns = cc (access_acts_not e access)
 
 -- Lawful with a lock held are a lock, an unlock and an access.
 pub lawful_kinds : (e : Event) → lawful_holding e ≡ (is_locking e || (is_unlocking e || is_access e))
@@ -75,11 +79,13 @@ lawful_kinds e = by_row e.kind
     by_row (suc (suc (suc (suc (suc (suc (suc (suc m)))))))) = sym (past (suc (suc (suc (suc (suc (suc (suc (suc m)))))))) (omega arith))
 
 -- So an event that is none of these is not; and then the table and the set of locks held tell whether a lock is held.
-pub unlawful : (e : Event) → e.kind ≢ 3 → e.kind ≢ 4 → is_access e ≡ false → lawful_holding e ≡ false
-unlawful e not-3 not-4 no_access = lawful_kinds e ∙ rw (ne_eqb _ _ not-3, ne_eqb _ _ not-4, no_access) refl
-
-pub none_held : {l b lawful empty : Bool} → l ≡ lawful → b ≡ empty → lawful ≡ false → (not l && not b) ≡ false → empty ≡ true
-none_held {b = b} p q holds-none tested = sym q ∙ not-false b (rw (p ∙ holds-none) at tested)
+pub none_held : (e : Event) {kind : Kind} {l b empty : Bool} → kind_named e.kind ≡ Ok kind → (kind ≡ Lock → ⊥) → (kind ≡ Unlock → ⊥)
+    → is_access e ≡ false → l ≡ lawful_holding e → b ≡ empty → (not l && not b) ≡ false → empty ≡ true
+none_held e {b = b} is not_lock not_unlock no_access p q tested =
+    let not-3 = ne_eqb _ _ (named_other _ _ Lock is not_lock) in
+    let not-4 = ne_eqb _ _ (named_other _ _ Unlock is not_unlock) in
+    let unlawful : lawful_holding e ≡ false = lawful_kinds e ∙ rw (not-3, not-4, no_access) refl in
+    sym q ∙ not-false b (rw (p ∙ unlawful) at tested)
 
 pub some_held : (l : Bool) {b empty : Bool} → b ≡ empty → (not l && not b) ≡ true → empty ≡ false
 some_held false {b} q tested = sym q ∙ not-true b tested

@@ -114,8 +114,8 @@ module _ (trace : List ℕ) (k : ℕ) (s : State) (l : KeptLists) (r : Runs) (e 
 
 -- ---- An event that is no access ---------------------------------------------------------------------------------------------------------------
 
-module _ (trace report : List ℕ) (l : KeptLists) (s : State) (r : Runs) (e : Event) (next : ℕ)
-    (n : ComesNext trace s l r e next) where
+module _ {trace : List ℕ} {l : KeptLists} {s : State} {r : Runs} {e : Event} {next : ℕ} (n : ComesNext trace s l r e next)
+    (report : List ℕ) where
   abbrev k : ℕ
   k = s.counts.events
 

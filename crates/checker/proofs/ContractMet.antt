@@ -2,11 +2,12 @@
 -- Assumes nothing.
 use Prim.Native.Nat.{ℕ, ◌≤◌, ◌<◌}
 use mathlib.Core.Path.{◌≡◌, refl, sym, ap, subst, ◌∙◌}
-use mathlib.Core.Bool.{Bool, true, false, ◌||◌}
+use mathlib.Core.Bool.{true, false}
 use mathlib.Core.List.{List}
 use native.Mathlib.Omega.{arith}
 use lib.ListN.{length}
 use borrow.Author.Tests.{ltb-false, lt-ltb, le-ltb}
+use Rattle.std.proofs.lemmas.Bool.{or_parts}
 use Rattle.kept.specs.Theorem.{visited}
 use Rattle.kept.specs.Lists.{sum_below}
 use Rattle.bags.specs.declared.ask.Runs.{Runs}
@@ -82,19 +83,15 @@ long_refused trace report r a fits long is =
     meets (lent trace report r) (stops 2) (left a report r) (rw (fits, lt-ltb _ _ long) refl) (ap (λ (b : Answer). left b report r) is)
 
 -- Where no piece is short, each is long enough.
-neither : (a b : Bool) → (a || b) ≡ false → (a ≡ false) × (b ≡ false)
-neither true b is = (cc, cc)
-neither false b is = (refl, is)
-
 pub room_fits : (r : WorkingRoom) → any_short r ≡ false
     → Fits (pieces r.heads r.links r.events r.procedures r.sets) × (piece_size ≤ length r.starts) × (piece_size ≤ length r.joins)
 room_fits r fits =
-    let but-joins = neither _ _ fits in
-    let but-starts = neither _ _ but-joins.0 in
-    let but-sets = neither _ _ but-starts.0 in
-    let but-procedures = neither _ _ but-sets.0 in
-    let but-events = neither _ _ but-procedures.0 in
-    let but-links = neither _ _ but-events.0 in (
+    let but-joins = or_parts _ _ fits in
+    let but-starts = or_parts _ _ but-joins.0 in
+    let but-sets = or_parts _ _ but-starts.0 in
+    let but-procedures = or_parts _ _ but-sets.0 in
+    let but-events = or_parts _ _ but-procedures.0 in
+    let but-links = or_parts _ _ but-events.0 in (
       record {
         heads_fit = ltb-false _ _ but-links.0;
         links_fit = ltb-false _ _ but-links.1;

@@ -79,8 +79,8 @@ parallel_with_lem j after-2 before-5 = record {
   s<i = omega arith;
   i<r = omega arith;
   r<j = after-2;
-  no_sync_of_g = none_between sync (λ q. let z : ◌≡◌ {A = ℕ} 0 1 = cc in omega arith) j before-5;
-  no_return_of_g = none_between return (λ q. let z : ◌≡◌ {A = ℕ} 0 1 = cc in omega arith) j before-5;
+  no_sync_of_g = none_between sync (λ q. cc) j before-5;
+  no_return_of_g = none_between return (λ q. cc) j before-5;
 }
 
 -- So a write like event 3, with the same locks held, races with event 1.

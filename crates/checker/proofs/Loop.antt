@@ -1,5 +1,5 @@
--- Through a trace: the invariant of the loop, that it holds at first and after each accepted event, and what follows from it where the call stops: the
--- state stands there as the definitions say, so the answer and the report are those of the definitions. Assumes nothing.
+-- Through a trace: the invariant of the loop, that it holds at first, that each accepted event is nearer to the end, and what follows where the call
+-- stops: the state stands there as the definitions say, so the answer and the report are those of the definitions. Assumes nothing.
 use Prim.Native.Nat.{ℕ, ◌-◌, ◌≤◌, ◌<◌}
 use mathlib.Core.Path.{◌≡◌, refl, sym, ap, subst, ◌∙◌}
 use mathlib.Core.Bool.{Bool, cond}
@@ -24,7 +24,7 @@ use Rattle.checker.specs.Report.{found, laid}
 use Rattle.checker.specs.Call.{answer}
 use Rattle.checker.specs.Steps.{Stands, AllRestsKept, GoesOn, IsRefused, answer_with}
 use Rattle.checker.proofs.Stopping.{judged_ended, place_grows, stops_at}
-use Rattle.checker.proofs.Rests.{as_it_is, rests_kept_on}
+use Rattle.checker.proofs.Rests.{as_it_is}
 
 -- ---- The invariant ----------------------------------------------------------------------------------------------------------------------------
 
@@ -38,14 +38,14 @@ pub record Going (trace report₀ : List ℕ) (l₀ : KeptLists) (r₀ : Runs) (
 abbrev pub state_at_first : Held → State
 state_at_first set = record { at = 0; held = set; counts = record { events = 0; races = 0; visits = 0; most = 0 } }
 
-module _ (l l' : KeptLists) (r r' : Runs) (fits : Fits (pieces_of l))
+module _ {l l' : KeptLists} {r r' : Runs} (fits : Fits (pieces_of l))
     (begins : Begins r.starts.now r.joins.now r'.starts.now r'.joins.now r'.pairs)
     (empty : l'.heads.now ≡ cleared piece_size l.heads.now) (same_links : l'.links.now ≡ l.links.now) (same : entries_kept l l') where
-  pub going_first : (trace report : List ℕ) (set : Held) → set.bits ≡ none → l'.slots ≡ none_used
+  pub going_first : {trace report : List ℕ} {set : Held} → set.bits ≡ none → l'.slots ≡ none_used
       → length r'.starts.now ≡ length r.starts.now → length r'.joins.now ≡ length r.joins.now
       → Going trace report l r report l' r' (state_at_first set)
   unfolding place held most found sum_below laid
-  going_first trace report set nothing unused starts-length joins-length = record {
+  going_first {trace} nothing unused starts-length joins-length = record {
     stands = record {
       accepted_before = λ k h. absurd (omega arith);
       at_place = refl;
@@ -71,34 +71,23 @@ module _ (l l' : KeptLists) (r r' : Runs) (fits : Fits (pieces_of l))
     };
   }
 
-module _ (trace report₀ : List ℕ) (l₀ : KeptLists) (r₀ : Runs) (report : List ℕ) (l : KeptLists) (r : Runs) (s : State)
+module _ {trace report₀ : List ℕ} {l₀ : KeptLists} {r₀ : Runs} {report : List ℕ} {l : KeptLists} {r : Runs} {s : State}
     (going : Going trace report₀ l₀ r₀ report l r s) where
   abbrev k : ℕ
   k = s.counts.events
 
-  -- An accepted event is one step on, and nearer to the end of the trace.
-  module _ (report' : List ℕ) (l' : KeptLists) (r' : Runs) (s' : State)
-      (on : GoesOn trace k report l r report' l' r' s') where
-    pub going_on : Going trace report₀ l₀ r₀ report' l' r' s'
-    going_on =
-        let counted = on.stands.events_told in
-        record {
-          stands = subst (λ (m : ℕ). Stands trace m s' l' r') (sym counted) on.stands;
-          reported = on.reported report₀ going.reported ∙ ap (λ (m : ℕ). laid (found (run (events trace)) m) report₀) (sym counted);
-          rests_kept = rests_kept_on _ _ _ _ _ _ going.rests_kept on.rests_kept;
-        }
-
-    pub nearer_the_end : s.at < length trace → length trace - s'.at < length trace - s.at
-    nearer_the_end left =
-        omega (arith, going.stands.at_place, on.stands.at_place, place_grows trace k on.accepted)
+  -- After an accepted event the end of the trace is nearer.
+  pub nearer_the_end : {report' : List ℕ} {l' : KeptLists} {r' : Runs} {s' : State} → GoesOn trace k report l r report' l' r' s'
+      → s.at < length trace → length trace - s'.at < length trace - s.at
+  nearer_the_end on left =
+      omega (arith, going.stands.at_place, on.stands.at_place, place_grows trace k on.accepted)
 
   -- Where the call stops, everything is as the definitions say.
-  pub record Answered (c : ℕ) (report' : List ℕ) (l' : KeptLists) (r' : Runs) : Type 0 where
+  pub record Answered (c : ℕ) (report' : List ℕ) : Type 0 where
     pub answer_told : answer_with c s ≡ answer trace
     pub report_told : report' ≡ laid (found (run (events trace)) (stop trace)) report₀
-    pub rests_told : AllRestsKept l₀ r₀ l' r'
 
-  stops_here : (c : ℕ) → verdict trace k ≡ stops c → Answered c report l r
+  stops_here : (c : ℕ) → verdict trace k ≡ stops c → Answered c report
   unfolding answer
   stops_here c says =
       let here = stops_at trace k c (record { accepted_before = going.stands.accepted_before; stops_there = says }) in
@@ -107,22 +96,17 @@ module _ (trace report₀ : List ℕ) (l₀ : KeptLists) (r₀ : Runs) (report :
         answer_told =
             rw (here.0, here.1, before.at_place, before.races_told, before.visits_told, before.most_told) refl;
         report_told = going.reported ∙ ap (λ (m : ℕ). laid (found (run (events trace)) m) report₀) (sym here.0);
-        rests_told = going.rests_kept;
       }
 
-  pub stopped : (c : ℕ) (report' : List ℕ) (l' : KeptLists) (r' : Runs)
-      → IsRefused trace k report l r report' l' r' c → Answered c report' l' r'
-  stopped c report' l' r' off =
+  pub stopped : {c : ℕ} {report' : List ℕ} {l' : KeptLists} {r' : Runs} → IsRefused trace k report l r report' l' r' c → Answered c report'
+  stopped {c} off =
       let here = stops_here c off.refused in
-      record {
-        answer_told = here.answer_told;
-        report_told = off.report_same ∙ here.report_told;
-        rests_told = rests_kept_on _ _ _ _ _ _ going.rests_kept off.rests_kept;
-      }
+      record { answer_told = here.answer_told; report_told = off.report_same ∙ here.report_told }
 
-  pub at_the_end : (c : ℕ) → length trace ≤ s.at → c ≡ cond (ltb 0 r.pairs.count) 14 0 → Answered c report l r
+  -- At the end of the trace main is open, or it is not.
+  pub at_the_end : {tested is_open : Bool} → length trace ≤ s.at → tested ≡ ltb 0 r.pairs.count → tested ≡ is_open → Answered (cond is_open 14 0) report
   unfolding ended
-  at_the_end c end is =
-      stops_here c
+  at_the_end {tested} {is_open} end is so =
+      stops_here (cond is_open 14 0)
       (judged_ended trace k (subst (λ (at : ℕ). length trace ≤ at) going.stands.at_place end)
-      ∙ ap stops (ap (λ (b : Bool). cond b 14 0) going.stands.bags_held.main_told ∙ sym is))
+      ∙ ap stops (ap (λ (b : Bool). cond b 14 0) (going.stands.bags_held.main_told ∙ sym is ∙ so)))

@@ -1,4 +1,4 @@
--- What lies past the used part of each piece: it is kept where nothing changes, and further on where it is kept twice. Assumes nothing.
+-- What lies past the used part of each piece: it is kept where nothing changes. Assumes nothing.
 use Prim.Native.Nat.{ℕ}
 use mathlib.Core.Path.{refl}
 use mathlib.Core.List.{List}
@@ -7,7 +7,6 @@ use Rattle.kept.specs.declared.KeptLists.{KeptLists}
 use Rattle.kept.specs.Lent.{pieces_of}
 use Rattle.kept.specs.Pieces.{Pieces, piece_size, RestKept}
 use Rattle.kept.specs.Holds.{RestsKept}
-use Rattle.kept.proofs.Laws as lists
 use Rattle.checker.specs.Steps.{AllRestsKept}
 
 -- Nothing changes.
@@ -26,20 +25,3 @@ lists_as_they_are p = record {
 pub all_as_they_are : (l : KeptLists) (r : Runs) → AllRestsKept l r l r
 all_as_they_are l r =
     record { lists_rest = lists_as_they_are (pieces_of l); starts_rest = as_it_is r.starts.now; joins_rest = as_it_is r.joins.now }
-
--- Kept twice.
-pub rests_kept_on : (l l' l'' : KeptLists) (r r' r'' : Runs) → AllRestsKept l r l' r' → AllRestsKept l' r' l'' r'' → AllRestsKept l r l'' r''
-rests_kept_on l l' l'' r r' r'' one two =
-    let first = one.lists_rest in
-    let second = two.lists_rest in
-    record {
-      lists_rest = record {
-        heads = lists.rest_kept_on _ _ _ _ first.heads second.heads;
-        links = lists.rest_kept_on _ _ _ _ first.links second.links;
-        events = lists.rest_kept_on _ _ _ _ first.events second.events;
-        procedures = lists.rest_kept_on _ _ _ _ first.procedures second.procedures;
-        sets = lists.rest_kept_on _ _ _ _ first.sets second.sets;
-      };
-      starts_rest = lists.rest_kept_on _ _ _ _ one.starts_rest two.starts_rest;
-      joins_rest = lists.rest_kept_on _ _ _ _ one.joins_rest two.joins_rest;
-    }

@@ -91,12 +91,12 @@ module _ (trace : List ℕ) (l : KeptLists) (s : State) (r : Runs) (e : Event) (
 
 -- ---- Refused before it is brought in ----------------------------------------------------------------------------------------------------------
 
-module _ (trace report : List ℕ) (k : ℕ) (l : KeptLists) (s : State) (r : Runs) (before : Stands trace k s l r)
-    (left : s.at < length trace) where
+module _ {trace : List ℕ} {k : ℕ} {l : KeptLists} {s : State} {r : Runs} (before : Stands trace k s l r) (left : s.at < length trace)
+    (report : List ℕ) where
   -- No event was read,
-  pub reading_refused : (why : Refusal) (at c : ℕ) → reading_at trace s.at ≡ refused_at why at → c ≡ code_of why
+  pub reading_refused : {why : Refusal} {at c : ℕ} → reading_at trace s.at ≡ refused_at why at → c ≡ code_of why
       → IsRefused trace k report l r report l r c
-  reading_refused why at c read is = record {
+  reading_refused {why} {at} read is = record {
     refused =
         judged_refused trace k at why (subst (λ (place : ℕ). place < length trace) before.at_place left)
         (subst (λ (place : ℕ). reading_at trace place ≡ refused_at why at) before.at_place read)
@@ -106,9 +106,9 @@ module _ (trace report : List ℕ) (k : ℕ) (l : KeptLists) (s : State) (r : Ru
   }
 
   -- or main has returned.
-  pub refused_after_main : (e : Event) (next : ℕ) → reading_at trace s.at ≡ event_then e next → ltb 0 r.pairs.count ≡ false
+  pub refused_after_main : {e : Event} {next : ℕ} → reading_at trace s.at ≡ event_then e next → ltb 0 r.pairs.count ≡ false
       → IsRefused trace k report l r report l r 7
-  refused_after_main e next read over = record {
+  refused_after_main {e} {next} read over = record {
     refused = stops_after_main trace k s l r e next before left read over;
     report_same = refl;
     rests_kept = all_as_they_are l r;

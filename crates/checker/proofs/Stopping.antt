@@ -52,7 +52,7 @@ judged_refused trace k at why left read = judged_read trace k left ∙ ap (by_re
 
 -- No stop accepts an event, the end of the trace as little as a broken rule.
 pub stop_is_no_go : (c : ℕ) → stops c ≡ goes_on → ⊥
-stop_is_no_go c e = let z : ◌≡◌ {A = ℕ} 0 1 = cc in omega arith
+stop_is_no_go c e = cc
 
 ended_is_no_go : (t : ℕ → Event) (k : ℕ) → ended t k ≡ goes_on → ⊥
 unfolding ended

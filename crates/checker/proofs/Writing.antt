@@ -7,9 +7,7 @@ use native.Mathlib.Omega.{arith}
 use native.Mathlib.Decide.{dec_lt}
 use lib.ListN.{length, set, drop}
 use borrow.Author.Tests.{le-leb, lt-leb}
-use Rattle.kept.specs.declared.Entry.{Entry}
-use Rattle.std.specs.Prelude.{Option, None, Some}
-use Rattle.checker.specs.Report.{Race, numbers, race_with, laid}
+use Rattle.checker.specs.Report.{Race, numbers, laid}
 use Rattle.checker.specs.Steps.{written_at, written}
 
 -- ---- One entry --------------------------------------------------------------------------------------------------------------------------------
@@ -23,18 +21,6 @@ entry_fits n location earlier later report h = rw (le-leb (n * 3 + 3) (length re
 pub no_entry_fits : (n location earlier later : ℕ) (report : List ℕ) → length report < n * 3 + 3 → report ≡ written_at n location earlier later report
 unfolding written_at
 no_entry_fits n location earlier later report h = rw (lt-leb (n * 3 + 3) (length report) h) refl
-
--- What an access is reported with, by who is named.
-pub nobody_noted : (races x : ℕ) (e : Entry) (race : Option Entry) (report : List ℕ) → race ≡ None
-    → (races ≡ races + length (race_with x e race)) × (report ≡ written races (race_with x e race) report)
-unfolding written
-nobody_noted races x e race report is = rw is (omega arith, refl)
-
-pub race_noted : (races x : ℕ) (e k : Entry) (race : Option Entry) (report : List ℕ) → race ≡ Some k
-    → (races + 1 ≡ races + length (race_with x e race))
-    × (written_at races x k.event.0 e.event.0 report ≡ written races (race_with x e race) report)
-unfolding written
-race_noted races x e k race report is = rw is (refl, refl)
 
 -- ---- One after the other ----------------------------------------------------------------------------------------------------------------------
 

@@ -23,7 +23,7 @@ use bags::Full;
 use bags::ask::{Pairs, Runs};
 use kept::{Entry, KeptLists, NotKept, Slots, Visited, clear_piece};
 use locks::Held;
-use trace::{Event, EventNumber, Found, Kind, Refusal, Refused, read_event};
+use trace::{EventNumber, Found, Kind, Refusal, Refused, read_event};
 
 // The size of each piece of working room, in numbers.
 pub const PIECE: usize = 4096;
@@ -58,7 +58,7 @@ struct Counts {
 }
 
 // What is brought forward from event to event beside the lists and the runs: the place of the next event, the locks held, and the
-// counts.
+// counts. Nothing compares or prints one, nor a `Counts` or an `End`.
 #[derive(Clone, Copy)]
 struct State {
     at: usize,
@@ -66,7 +66,8 @@ struct State {
     counts: Counts,
 }
 
-// How a call ends: the trace is accepted, or why it is not.
+// How a call ends: the trace is accepted, or why it is not. Two hold a refusal of a layer below, so that no number of theirs can be the
+// code.
 #[derive(Clone, Copy)]
 enum End {
     Accepted,
@@ -136,7 +137,7 @@ impl From<NotKept> for End {
 }
 
 // The call: reads a trace, reports the races in it, and returns the code and the counts. Any bytes, any lengths, and whatever the
-// room holds.
+// room holds. The pieces come one by one, as C lends them.
 pub fn check(
     trace: &[u8],
     report: &mut [u32],
@@ -259,26 +260,27 @@ fn step(
     ensures lists_lent { SameLists lists.old lists.new }
     ensures runs_lent { SameRuns runs.old runs.new }
 {
-    let Found { event, next } = read_event(trace, state.at)?;
+    let found = read_event(trace, state.at)?;
     if !runs.main_is_open() {
         return Err(End::AfterMain);
     }
-    if event.is_access() {
-        bring_access(state, event, next, report, lists, runs)
+    if found.event.is_access() {
+        bring_access(state, found, report, lists, runs)
     } else {
-        bring_other(state, event, next, runs)
+        bring_other(state, found, runs)
     }
 }
 
 // An event that is no access, while main runs. Codes 8 to 11 are each tested where the kind is one that they speak of.
-fn bring_other(state: State, event: Event, next: usize, runs: &mut Runs<'_>) -> Result<State, End>
+fn bring_other(state: State, found: Found, runs: &mut Runs<'_>) -> Result<State, End>
     requires bags_room { InRoom runs.old }
     requires small { Small state.counts }
-    requires event_value { is_access event ≡ false }
-    ensures step { (trace report : List ℕ) (lists : KeptLists) → ComesNext trace state lists runs.old event next
+    requires event_value { is_access found.event ≡ false }
+    ensures step { (trace report : List ℕ) (lists : KeptLists) → ComesNext trace state lists runs.old found.event found.next
         → AfterStep trace state.counts.events report lists runs.old report lists runs.new result }
     ensures runs_lent { SameRuns runs.old runs.new }
 {
+    let Found { event, next } = found;
     let kind = Kind::try_from(event.kind)?;
     let lock = event.operand;
     let held = state.held;
@@ -313,19 +315,19 @@ fn bring_other(state: State, event: Event, next: usize, runs: &mut Runs<'_>) -> 
 // An access, while main runs.
 fn bring_access(
     state: State,
-    event: Event,
-    next: usize,
+    found: Found,
     report: &mut [u32],
     lists: &mut KeptLists<'_>,
     runs: &Runs<'_>,
 ) -> Result<State, End>
     requires safe { Safe state lists.old runs.now }
-    requires event_value { is_access event ≡ true }
-    requires event_bound { location event < piece_size }
-    ensures step { (trace : List ℕ) → ComesNext trace state lists.old runs.now event next
+    requires event_value { is_access found.event ≡ true }
+    requires event_bound { location found.event < piece_size }
+    ensures step { (trace : List ℕ) → ComesNext trace state lists.old runs.now found.event found.next
         → AfterStep trace state.counts.events report.old lists.old runs.now report.new lists.new runs.now result }
     ensures lists_lent { SameLists lists.old lists.new }
 {
+    let Found { event, next } = found;
     let location = event.location();
     let entry = Entry {
         event: EventNumber(state.counts.events),
@@ -338,6 +340,7 @@ fn bring_access(
 }
 
 // The access is reported if an entry is named that it races with. Gives how many are reported then.
+#[tactic(auto, unfolding(crate::specs::Steps::written))]
 fn note(report: &mut [u32], races: u32, location: u32, entry: Entry, race: Option<Entry>) -> u32
     requires { races < most_bytes }
     ensures result { result ≡ races + length (race_with location entry race) }
@@ -352,7 +355,8 @@ fn note(report: &mut [u32], races: u32, location: u32, entry: Entry, race: Optio
     }
 }
 
-// An entry of the report, after so many others, where it fits.
+// An entry of the report, after so many others, where it fits. (`as_chunks_mut` says nothing of what the slice ends as.)
+#[tactic(auto, unfolding(crate::specs::Steps::written_at))]
 fn write(report: &mut [u32], races: u32, location: u32, earlier: EventNumber, later: EventNumber)
     requires { races < most_bytes }
     ensures { report.new ≡ written_at races location earlier.0 later.0 report.old }
@@ -381,7 +385,7 @@ impl Counts {
     }
 }
 
-// Brings the counts forward by one accepted event.
+// Brings the counts, which are lent, forward by one accepted event: the form that 01 names.
 fn bring(counts: &mut Counts, races: u32, visits: u32, holding: u32)
     requires { Small counts.old }
     ensures { counts.new ≡ counts_after counts.old races visits holding }

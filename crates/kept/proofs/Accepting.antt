@@ -90,7 +90,7 @@ pub answer_no_bag : (bs : List Bags) (x : ℕ) (e : Entry) (p : Pieces) → any 
 unfolding accessed
 answer_no_bag bs x e p stray = rw stray
 
-module _ (bs : List Bags) (x : ℕ) (e : Entry) (p : Pieces) (slots : Slots) (room : Room p slots) (here : x < piece_size) (seen : Seen)
+module _ {bs : List Bags} {x : ℕ} {e : Entry} {p : Pieces} {slots : Slots} (room : Room p slots) (here : x < piece_size) {seen : Seen}
     (told : Told bs x e p slots seen) where
   -- ---- the answer
 
@@ -133,16 +133,16 @@ module _ (bs : List Bags) (x : ℕ) (e : Entry) (p : Pieces) (slots : Slots) (ro
   answer_full bagged full = rw (bagged, sym full_told ∙ full)
 
   -- Neither.
-  pub answer_done : (race : Option Entry) → any (in_no_bag bs) (lists_in p x) ≡ false → is_full seen slots ≡ false
-      → race ≡ named_at p.events p.procedures p.sets seen.race → Ok (record { visits = seen.visits; race = race }) ≡ accessed bs x e (lists_in p)
+  pub answer_done : {race : Option Entry} → any (in_no_bag bs) (lists_in p x) ≡ false → is_full seen slots ≡ false
+      → race ≡ named_at p.events p.procedures p.sets seen.race.0 → Ok (record { visits = seen.visits; race = race }) ≡ accessed bs x e (lists_in p)
   unfolding accessed
-  answer_done race bagged full named =
+  answer_done {race} bagged full named =
       rw (bagged, sym full_told ∙ full)
       (ap₂ (λ (v : ℕ) (r : Option Entry). Ok (record { visits = v; race = r })) told.visits_told (named ∙ told.race_told))
 
   -- ---- what is left
 
-  module _ (heads₁ links₁ : List ℕ) (slots₁ : Slots)
+  module _ {heads₁ links₁ : List ℕ} {slots₁ : Slots}
       (pruned : Pruned (drops_by bs e p.procedures p.sets) x p.heads p.links slots heads₁ links₁ slots₁) where
     abbrev lists₁ : ℕ → List ℕ
     lists₁ = place_at x (slots_left bs x e p) (slots_of p.heads p.links)
@@ -190,7 +190,7 @@ module _ (bs : List Bags) (x : ℕ) (e : Entry) (p : Pieces) (slots : Slots) (ro
             fit
 
     pub append_fits : seen.omitted ≡ false → is_full seen slots ≡ false
-        → (seen.last ≤ piece_size) × (slots₁.freed ≤ piece_size) × (slots₁.used ≤ piece_size) × (slot_for slots₁ < piece_size)
+        → (seen.last.0 ≤ piece_size) × (slots₁.freed ≤ piece_size) × (slots₁.used ≤ piece_size) × (slot_for slots₁ < piece_size)
     append_fits not-omitted room_left =
         let left_is = slots_left bs x e p in
         let whole = place_here x left_is (slots_of p.heads p.links) ∙ sym (append-nil left_is) in
@@ -205,8 +205,8 @@ module _ (bs : List Bags) (x : ℕ) (e : Entry) (p : Pieces) (slots : Slots) (ro
     -- The entry is added.
     pub entry_added : seen.omitted ≡ false → is_full seen slots ≡ false
         → {r : Slots} {heads' links' events' procedures' sets' : List ℕ} → r ≡ slots_then links₁ slots₁
-        → heads' ≡ heads_linked seen.last x (slot_for slots₁ + 1) heads₁
-        → links' ≡ links_linked seen.last (slot_for slots₁ + 1) (set links₁ (slot_for slots₁) 0)
+        → heads' ≡ heads_linked seen.last.0 x (slot_for slots₁ + 1) heads₁
+        → links' ≡ links_linked seen.last.0 (slot_for slots₁ + 1) (set links₁ (slot_for slots₁) 0)
         → events' ≡ set p.events (slot_for slots₁) e.event.0 → procedures' ≡ set p.procedures (slot_for slots₁) e.procedure.0
         → sets' ≡ set p.sets (slot_for slots₁) e.locks
         → (r ≡ slots_after bs x e p slots) × Accepted bs x e p slots (pieces heads' links' events' procedures' sets')

@@ -13,7 +13,29 @@ use lib.Seq.{get_or-set_same, get_or-set_other}
 use borrow.Author.Tests.{eq-eqb, ne_eqb}
 use Rattle.kept.specs.Pieces.{piece_size, slots_from, Chain, times_in}
 use Rattle.kept.specs.Access.{link_to}
-use Rattle.kept.specs.Parts.{heads_linked, links_linked, last_of}
+use Rattle.std.specs.Prelude.{Option, None, Some}
+use Rattle.kept.specs.Parts.{slot_at, heads_linked, links_linked, last_of}
+
+-- ---- where a link leads
+
+-- The link to a slot, if there is one.
+unfoldable pub link_of : Option ℕ → ℕ
+link_of None = 0
+link_of (Some s) = suc s
+
+link_back : (at : ℕ) → link_of (slot_at at) ≡ at
+unfolding link_of
+link_back zero = refl
+link_back (suc s) = refl
+
+-- A link leads to a slot or nowhere.
+pub leads_to : {at : ℕ} {found : Option ℕ} {slot : ℕ} → found ≡ slot_at at → found ≡ Some slot → at ≡ suc slot
+unfolding link_of
+leads_to {at} is some = sym (link_back at) ∙ ap link_of (sym is ∙ some)
+
+pub leads_nowhere : {at : ℕ} {found : Option ℕ} → found ≡ slot_at at → ((slot : ℕ) → found ≡ Some slot → ⊥) → at ≡ 0
+leads_nowhere {at = zero} is none = refl
+leads_nowhere {at = suc s} is none = absurd (none s is)
 
 -- ---- how often a slot stands in a list
 

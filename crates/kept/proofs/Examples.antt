@@ -18,7 +18,7 @@ use Rattle.kept.specs.Rules.{races, reported, named, dropped, left, omits, added
 use Rattle.kept.specs.Theorem.{Run, Race, Lawful, kept, visited}
 use Rattle.kept.specs.Pieces.{pieces, slots_from, entry_at, cleared}
 use Rattle.kept.specs.Access.{parallel_by, code_of, freeing, next_slot, freed_then, used_then}
-use Rattle.kept.specs.Parts.{nothing_seen, weighed_entry, seen_over, some_stray, looked_over, is_full}
+use Rattle.kept.specs.Parts.{link, nothing_seen, weighed_entry, seen_over, some_stray, looked_over, is_full}
 
 -- The entry of an event, made by a procedure under a lock set.
 abbrev entry_by : ℕ → ℕ → ℕ → Entry
@@ -136,7 +136,7 @@ first_is_named = refl
 -- is to be dropped, and the link 2 leads to it; so the last that stays, also of those before it, is in slot 0, which the link 1 names.
 pub seen_of_two :
     seen_over main_runs (new 1) (0 ∷ 0 ∷ []) (0 ∷ 1 ∷ []) (0 ∷ 1 ∷ []) nothing_seen
-    ≡ record { visits = 2; race = 0; omitted = false; dropped = 1; last = 1; first = 2; before = 1 }
+    ≡ record { visits = 2; race = link 0; omitted = false; dropped = 1; last = link 1; first = link 2; before = link 1 }
 unfolding seen_over weighed_entry races dropped omits is_in every apart within member in_s_bag in_p_bag in_some_bag
 seen_of_two = refl
 
@@ -159,9 +159,9 @@ pub full_or_not :
     (is_full nothing_seen (record { freed = 0; used = 4096 }) ≡ true)
     × (is_full nothing_seen (record { freed = 0; used = 4095 }) ≡ false)
     × (is_full nothing_seen (record { freed = 3; used = 4096 }) ≡ false)
-    × (is_full (record { visits = 1; race = 0; omitted = false; dropped = 1; last = 0; first = 1; before = 0 })
+    × (is_full (record { visits = 1; race = link 0; omitted = false; dropped = 1; last = link 0; first = link 1; before = link 0 })
     (record { freed = 0; used = 4096 }) ≡ false)
-    × (is_full (record { visits = 1; race = 0; omitted = true; dropped = 0; last = 1; first = 0; before = 0 })
+    × (is_full (record { visits = 1; race = link 0; omitted = true; dropped = 0; last = link 1; first = link 0; before = link 0 })
     (record { freed = 0; used = 4096 }) ≡ false)
 full_or_not = (refl, refl, refl, refl, refl)
 

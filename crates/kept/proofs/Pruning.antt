@@ -59,9 +59,6 @@ chain_on links at [] rest chain = rw (sym (chain_link links at rest chain)) chai
 chain_on links at (p ∷ ps) rest chain = chain_on links (get_or links p 0) ps rest chain.2
 
 module _ (drops : ℕ → Bool) (x : ℕ) (heads₀ links₀ : List ℕ) (slots : Slots) where
-  abbrev whole : List ℕ
-  whole = slots_of heads₀ links₀ x
-
   pub record Pruning (heads links : List ℕ) (freed last at left : ℕ) : Type 0 where
     pub passed : List ℕ
     pub ahead : List ℕ
@@ -70,15 +67,17 @@ module _ (drops : ℕ → Bool) (x : ℕ) (heads₀ links₀ : List ℕ) (slots 
     pub named : last ≡ last_of passed
     pub leads : at ≡ link_to ahead
     pub counted : left ≡ how_many drops ahead
-    pub stayed : those (stays drops) whole ≡ passed ++ those (stays drops) ahead
-    pub gone : freeing drops whole (slots_freed links₀ slots) ≡ freeing drops ahead pool
+    pub stayed : those (stays drops) (slots_of heads₀ links₀ x) ≡ passed ++ those (stays drops) ahead
+    pub gone : freeing drops (slots_of heads₀ links₀ x) (slots_freed links₀ slots) ≡ freeing drops ahead pool
     pub heads_rest : RestKept piece_size heads₀ heads
     pub links_rest : RestKept slots.used links₀ links
 
+module _ {drops : ℕ → Bool} {x : ℕ} {heads₀ links₀ : List ℕ} {slots : Slots} where
   -- The walk begins after slots that stay.
-  pub prune_begins : (count first before : ℕ) → LaidOut heads₀ links₀ slots (slots_of heads₀ links₀) (slots_freed links₀ slots)
-      → count ≡ how_many drops whole → FirstDropped drops whole first before → Pruning heads₀ links₀ slots.freed before first count
-  prune_begins count first before laid counted begins =
+  pub prune_begins : {count first before : ℕ} → LaidOut heads₀ links₀ slots (slots_of heads₀ links₀) (slots_freed links₀ slots)
+      → count ≡ how_many drops (slots_of heads₀ links₀ x) → FirstDropped drops (slots_of heads₀ links₀ x) first before
+      → Pruning drops x heads₀ links₀ slots heads₀ links₀ slots.freed before first count
+  prune_begins {count} laid counted begins =
       let passed = begins.passed in
       let ahead = begins.ahead in
       let same = sym begins.whole in
@@ -103,23 +102,23 @@ module _ (drops : ℕ → Bool) (x : ℕ) (heads₀ links₀ : List ℕ) (slots 
       }
 
   -- Where none is dropped, everything stays as it is.
-  pub none_pruned : LaidOut heads₀ links₀ slots (slots_of heads₀ links₀) (slots_freed links₀ slots) → how_many drops whole ≡ 0
+  pub none_pruned : LaidOut heads₀ links₀ slots (slots_of heads₀ links₀) (slots_freed links₀ slots) → how_many drops (slots_of heads₀ links₀ x) ≡ 0
       → Pruned drops x heads₀ links₀ slots heads₀ links₀ slots
   none_pruned laid none = record {
     laid_out =
-        rw (none_dropped drops whole none, none_freed drops whole (slots_freed links₀ slots) none, place_same x (slots_of heads₀ links₀)) laid;
+        rw (none_dropped drops (slots_of heads₀ links₀ x) none, none_freed drops (slots_of heads₀ links₀ x) (slots_freed links₀ slots) none, place_same x (slots_of heads₀ links₀)) laid;
     same_used = refl;
     heads_rest = record { same_length = refl; same_rest = refl };
     links_rest = record { same_length = refl; same_rest = refl };
   }
 
   -- One step on: one slot less is ahead.
-  abbrev pub Step : (heads links : List ℕ) (freed last at left : ℕ) → Pruning heads links freed last at left
+  abbrev pub Step : {heads links : List ℕ} {freed last at left : ℕ} → Pruning drops x heads₀ links₀ slots heads links freed last at left
       → (heads' links' : List ℕ) (freed' last' at' left' : ℕ) → Type 0
-  Step heads links freed last at left w heads' links' freed' last' at' left' =
-      (w' : Pruning heads' links' freed' last' at' left') × (suc (length w'.ahead) ≡ length w.ahead)
+  Step w heads' links' freed' last' at' left' =
+      (w' : Pruning drops x heads₀ links₀ slots heads' links' freed' last' at' left') × (suc (length w'.ahead) ≡ length w.ahead)
 
-  module _ (here : x < piece_size) (heads links : List ℕ) (freed last at left : ℕ) (w : Pruning heads links freed last at left) where
+  module _ (here : x < piece_size) {heads links : List ℕ} {freed last at left : ℕ} (w : Pruning drops x heads₀ links₀ slots heads links freed last at left) where
     -- The layout by now.
     abbrev slots' : Slots
     slots' = record { freed = freed; used = slots.used }
@@ -141,33 +140,41 @@ module _ (drops : ℕ → Bool) (x : ℕ) (heads₀ links₀ : List ℕ) (slots 
     pub prune_walk : slots_from piece_size links at ≡ w.ahead
     prune_walk = rw w.leads (chain_slots piece_size links (link_to w.ahead) w.ahead ahead_chain ahead_few)
 
-    -- While some are left to drop, the link leads to a slot within the pieces.
-    pub prune_inside : (left ≡ 0 → ⊥) → (0 < at) × (at ≤ piece_size) × (last ≤ piece_size)
-    unfolding Chain those
-    prune_inside ne = go w.ahead w.leads w.counted ahead_chain
+    -- A slot that the link leads to lies within the pieces; where it leads nowhere, none is left to drop.
+    pub prune_inside : {slot : ℕ} → at ≡ suc slot → (slot < piece_size) × (last ≤ piece_size)
+    unfolding Chain
+    prune_inside {slot} is = go w.ahead w.leads ahead_chain
       where
-        go : (ss : List ℕ) → at ≡ link_to ss → left ≡ how_many drops ss → Chain links (link_to ss) ss → (0 < at) × (at ≤ piece_size) × (last ≤ piece_size)
-        go [] leads counted chain = absurd (ne counted)
-        go (s ∷ ss) leads counted chain =
+        go : (ss : List ℕ) → at ≡ link_to ss → Chain links (link_to ss) ss → (slot < piece_size) × (last ≤ piece_size)
+        go [] leads chain = absurd (omega (arith, leads, is))
+        go (s ∷ ss) leads chain =
             let whole = place_here x (w.passed ++ w.ahead) (slots_of heads₀ links₀) in
             let last_Fit = laid_last heads links slots' lists w.pool w.laid x w.passed w.ahead here whole in
-            (omega arith, omega (arith, chain.1), omega (arith, last_Fit, w.named, w.laid.used_fit))
+            (omega (arith, chain.1, leads, is), omega (arith, last_Fit, w.named, w.laid.used_fit))
+
+    pub prune_over : at ≡ 0 → left ≡ 0
+    unfolding those
+    prune_over none = go w.ahead w.leads w.counted
+      where
+        go : (ss : List ℕ) → at ≡ link_to ss → left ≡ how_many drops ss → left ≡ 0
+        go [] leads counted = counted
+        go (s ∷ ss) leads counted = absurd (omega (arith, leads, none))
 
     -- A slot that is dropped is detached and freed.
-    pub prune_drops : piece_size ≤ length heads₀ → piece_size ≤ length links₀ → (heads' links' : List ℕ) (at' : ℕ) → (left ≡ 0 → ⊥)
-        → drops (at - 1) ≡ true → at' ≡ get_or links (at - 1) 0 → heads' ≡ heads_linked last x (get_or links (at - 1) 0) heads
-        → links' ≡ links_linked last (get_or links (at - 1) 0) links
-        → Step heads links freed last at left w heads' (set links' (at - 1) freed) at last at' (left - 1)
+    pub prune_drops : piece_size ≤ length heads₀ → piece_size ≤ length links₀ → {heads' links' : List ℕ} {slot at' : ℕ} → at ≡ suc slot
+        → drops slot ≡ true → at' ≡ get_or links slot 0 → heads' ≡ heads_linked last x (get_or links slot 0) heads
+        → links' ≡ links_linked last (get_or links slot 0) links
+        → Step w heads' (set links' slot freed) at last at' (left - 1)
     unfolding Chain those freeing
-    prune_drops heads_fit links_fit heads' links' at' ne falls onward heads-linked links-linked =
+    prune_drops heads_fit links_fit {heads'} {links'} {slot} {at'} is falls onward heads-linked links-linked =
         rw (heads-linked, links-linked, onward) (go w.ahead refl w.leads w.counted ahead_chain)
       where
         go : (ss : List ℕ) → w.ahead ≡ ss → at ≡ link_to ss → left ≡ how_many drops ss → Chain links (link_to ss) ss
-            → Step heads links freed last at left w (heads_linked last x (get_or links (at - 1) 0) heads)
-            (set (links_linked last (get_or links (at - 1) 0) links) (at - 1) freed) at last (get_or links (at - 1) 0) (left - 1)
-        go [] same leads counted chain = absurd (ne counted)
+            → Step w (heads_linked last x (get_or links slot 0) heads)
+            (set (links_linked last (get_or links slot 0) links) slot freed) at last (get_or links slot 0) (left - 1)
+        go [] same leads counted chain = absurd (omega (arith, leads, is))
         go (s ∷ ss) same leads counted chain =
-            let at_slot : at - 1 ≡ s = omega (arith, leads) in
+            let at_slot : slot ≡ s = omega (arith, leads, is) in
             let falls-here : drops s ≡ true = rw at_slot at falls in
             let split : lists x ≡ w.passed ++ s ∷ ss =
             place_here x (w.passed ++ w.ahead) (slots_of heads₀ links₀) ∙ ap (λ (t : List ℕ). w.passed ++ t) same in
@@ -201,16 +208,16 @@ module _ (drops : ℕ → Bool) (x : ℕ) (heads₀ links₀ : List ℕ) (slots 
             )
 
     -- A slot that stays is passed.
-    pub prune_stays : (at' : ℕ) → (left ≡ 0 → ⊥) → drops (at - 1) ≡ false → at' ≡ get_or links (at - 1) 0
-        → Step heads links freed last at left w heads links freed at at' left
+    pub prune_stays : {slot at' : ℕ} → at ≡ suc slot → drops slot ≡ false → at' ≡ get_or links slot 0
+        → Step w heads links freed at at' left
     unfolding Chain those freeing
-    prune_stays at' ne stands onward = rw onward (go w.ahead refl w.leads w.counted ahead_chain)
+    prune_stays {slot} {at'} is stands onward = rw onward (go w.ahead refl w.leads w.counted ahead_chain)
       where
         go : (ss : List ℕ) → w.ahead ≡ ss → at ≡ link_to ss → left ≡ how_many drops ss → Chain links (link_to ss) ss
-            → Step heads links freed last at left w heads links freed at (get_or links (at - 1) 0) left
-        go [] same leads counted chain = absurd (ne counted)
+            → Step w heads links freed at (get_or links slot 0) left
+        go [] same leads counted chain = absurd (omega (arith, leads, is))
         go (s ∷ ss) same leads counted chain =
-            let at_slot : at - 1 ≡ s = omega (arith, leads) in
+            let at_slot : slot ≡ s = omega (arith, leads, is) in
             let stays_here : drops s ≡ false = rw at_slot at stands in
             let glued : (w.passed ++ s ∷ []) ++ ss ≡ w.passed ++ s ∷ ss = append_assoc w.passed (s ∷ []) ss in
             rw (at_slot, leads) (
@@ -242,8 +249,7 @@ module _ (drops : ℕ → Bool) (x : ℕ) (heads₀ links₀ : List ℕ) (slots 
         }
 
   -- So a walk from there is shorter.
-  pub prune_falls : x < piece_size → (heads links : List ℕ) (freed last at left : ℕ) (heads' links' : List ℕ) (freed' last' at' left' : ℕ)
-      (w : Pruning heads links freed last at left) → Step heads links freed last at left w heads' links' freed' last' at' left'
+  pub prune_falls : x < piece_size → {heads links : List ℕ} {freed last at left : ℕ} {heads' links' : List ℕ} {freed' last' at' left' : ℕ}
+      (w : Pruning drops x heads₀ links₀ slots heads links freed last at left) → Step w heads' links' freed' last' at' left'
       → length (slots_from piece_size links' at') < length (slots_from piece_size links at)
-  prune_falls here heads links freed last at left heads' links' freed' last' at' left' w next =
-      rw (prune_walk here heads links freed last at left w, prune_walk here heads' links' freed' last' at' left' next.0) (omega (arith, next.1))
+  prune_falls here w next = rw (prune_walk here w, prune_walk here next.0) (omega (arith, next.1))

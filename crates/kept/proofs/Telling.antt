@@ -7,7 +7,7 @@ use native.Mathlib.Omega.{arith}
 use lib.Dec.{eqb, eqb-suc-zero}
 use lib.ListN.{length, get_or, length-map}
 use borrow.Author.Tests.{eq-eqb, ne_eqb}
-use Rattle.std.specs.Prelude.{Option, None, Some, Result, Ok, Err, is_err}
+use Rattle.std.specs.Prelude.{Option, Some, Result, Ok, Err, is_err}
 use Rattle.bags.specs.Bags.{Bags}
 use Rattle.kept.specs.declared.Entry.{Entry}
 use Rattle.kept.specs.declared.Seen.{Seen}
@@ -21,6 +21,7 @@ use Rattle.kept.specs.Access.{parallel_by, in_no_bag, drops, is_omitted, slots_l
 use Rattle.kept.specs.Parts.{entry_of, nothing_seen, weighed_entry, seen_over, some_stray, looked_over, Walkable, named_at}
 use Rattle.kept.specs.Parts.{drops_by, how_many, last_of, FirstDropped}
 use Rattle.kept.proofs.Lists.{either_way}
+use Rattle.kept.proofs.Chains.{link_of}
 use Rattle.kept.proofs.Laid.{laid_few}
 
 -- ---- lists
@@ -30,11 +31,6 @@ any_of_map : {A B : Type 0} (f : A → B) (test : B → Bool) (list : List A) �
 unfolding any
 any_of_map f test [] = refl
 any_of_map f test (a ∷ list) = ap (cond (test (f a)) true) (any_of_map f test list)
-
--- The link to a slot, if one is found.
-unfoldable link_of : Option ℕ → ℕ
-link_of None = 0
-link_of (Some s) = suc s
 
 -- The last slot, after those seen before.
 unfoldable last_from : ℕ → List ℕ → ℕ
@@ -136,29 +132,29 @@ module _ (bs : List Bags) (e : Entry) (procedures sets : List ℕ) where
   dropped_seen (s ∷ ss) seen =
       dropped_seen ss (next s seen) ∙ count_of_more (drops_by bs e procedures sets s) seen.dropped s (those (drops_by bs e procedures sets) ss)
 
-  last_seen : (ss : List ℕ) (seen : Seen) → (seen_then ss seen).last ≡ last_from seen.last (those (λ s. not (drops_by bs e procedures sets s)) ss)
+  last_seen : (ss : List ℕ) (seen : Seen) → (seen_then ss seen).last.0 ≡ last_from seen.last.0 (those (λ s. not (drops_by bs e procedures sets s)) ss)
   unfolding seen_over weighed_entry those last_from
   last_seen [] seen = refl
   last_seen (s ∷ ss) seen =
       last_seen ss (next s seen)
-      ∙ last_from_more (drops_by bs e procedures sets s) seen.last s (those (λ s. not (drops_by bs e procedures sets s)) ss)
+      ∙ last_from_more (drops_by bs e procedures sets s) seen.last.0 s (those (λ s. not (drops_by bs e procedures sets s)) ss)
 
   -- The first to be dropped stands; and where there was none before, it comes after slots that stay.
   first_stands : (ss : List ℕ) (seen : Seen) → (seen.dropped ≡ 0 → ⊥)
-      → ((seen_then ss seen).first ≡ seen.first) × ((seen_then ss seen).before ≡ seen.before)
+      → ((seen_then ss seen).first.0 ≡ seen.first.0) × ((seen_then ss seen).before.0 ≡ seen.before.0)
   unfolding seen_over weighed_entry
   first_stands [] seen found = (refl, refl)
   first_stands (s ∷ ss) seen found =
       let falls = drops_by bs e procedures sets s in
       let rest = first_stands ss (next s seen) (some_more falls seen.dropped found) in (
-        rest.0 ∙ not_the_first falls seen.dropped (suc s) seen.first found,
-        rest.1 ∙ not_the_first falls seen.dropped seen.last seen.before found,
+        rest.0 ∙ not_the_first falls seen.dropped (suc s) seen.first.0 found,
+        rest.1 ∙ not_the_first falls seen.dropped seen.last.0 seen.before.0 found,
       )
 
   abbrev FirstAfter : ℕ → List ℕ → Seen → Type 0
   FirstAfter last ss seen =
       (passed : List ℕ) × (ahead : List ℕ) × (passed ++ ahead ≡ ss) × (how_many (drops_by bs e procedures sets) passed ≡ 0)
-      × (seen.before ≡ last_from last passed) × (seen.first ≡ link_to ahead)
+      × (seen.before.0 ≡ last_from last passed) × (seen.first.0 ≡ link_to ahead)
 
   first_after : (s : ℕ) (ss : List ℕ) (last : ℕ) (seen : Seen) → drops_by bs e procedures sets s ≡ false
       → FirstAfter (cond (drops_by bs e procedures sets s) last (suc s)) ss seen → FirstAfter last (s ∷ ss) seen
@@ -167,7 +163,7 @@ module _ (bs : List Bags) (e : Entry) (procedures sets : List ℕ) where
       (s ∷ rest.0, rest.1, ap (λ (t : List ℕ). s ∷ t) rest.2, rw q rest.3, rw q at rest.4, rest.5)
 
   first_seen : (ss : List ℕ) (seen : Seen) → seen.dropped ≡ 0 → (how_many (drops_by bs e procedures sets) ss ≡ 0 → ⊥)
-      → FirstAfter seen.last ss (seen_then ss seen)
+      → FirstAfter seen.last.0 ss (seen_then ss seen)
   unfolding seen_over weighed_entry those last_from
   first_seen [] seen none_yet found = absurd (found refl)
   first_seen (s ∷ ss) seen none_yet found =
@@ -176,12 +172,12 @@ module _ (bs : List Bags) (e : Entry) (procedures sets : List ℕ) where
       let stands = first_stands ss (next s seen) (rw q (λ (z : seen.dropped + 1 ≡ 0). omega (arith, z))) in
       let is_zero = eq-eqb seen.dropped 0 none_yet in
       ([], s ∷ ss, refl, refl, stands.1 ∙ rw (q, is_zero) refl, stands.0 ∙ rw (q, is_zero) refl))
-      (λ q. first_after s ss seen.last (seen_then ss (next s seen)) q (first_seen ss (next s seen) (rw q none_yet) (rw q at found)))
+      (λ q. first_after s ss seen.last.0 (seen_then ss (next s seen)) q (first_seen ss (next s seen) (rw q none_yet) (rw q at found)))
 
-  race_seen : (ss : List ℕ) (seen : Seen) → (seen_then ss seen).race ≡ cond (eqb seen.race 0) (link_of (first races_at ss)) seen.race
+  race_seen : (ss : List ℕ) (seen : Seen) → (seen_then ss seen).race.0 ≡ cond (eqb seen.race.0 0) (link_of (first races_at ss)) seen.race.0
   unfolding seen_over weighed_entry first link_of
-  race_seen [] seen = race_of_none seen.race
-  race_seen (s ∷ ss) seen = race_seen ss (next s seen) ∙ race_of_more (races_at s) seen.race s (first races_at ss)
+  race_seen [] seen = race_of_none seen.race.0
+  race_seen (s ∷ ss) seen = race_seen ss (next s seen) ∙ race_of_more (races_at s) seen.race.0 s (first races_at ss)
 
 -- ---- what the rules say
 
@@ -208,11 +204,11 @@ module _ (bs : List Bags) (x : ℕ) (e : Entry) (p : Pieces) (slots : Slots) whe
     pub visits_told : seen.visits ≡ length (lists_in p x)
     pub omitted_told : seen.omitted ≡ is_omitted bs x e p
     pub dropped_told : seen.dropped ≡ how_many (drops bs e p) (slots_of p.heads p.links x)
-    pub last_told : seen.last ≡ last_of (slots_left bs x e p)
+    pub last_told : seen.last.0 ≡ last_of (slots_left bs x e p)
     pub first_told : (seen.dropped ≡ 0 → ⊥)
-        → FirstDropped (drops_by bs e p.procedures p.sets) (slots_of p.heads p.links x) seen.first seen.before
-    pub race_told : named_at p.events p.procedures p.sets seen.race ≡ named (parallel_by bs) e (lists_in p x)
-    pub race_fit : seen.race ≤ piece_size
+        → FirstDropped (drops_by bs e p.procedures p.sets) (slots_of p.heads p.links x) seen.first.0 seen.before.0
+    pub race_told : named_at p.events p.procedures p.sets seen.race.0 ≡ named (parallel_by bs) e (lists_in p x)
+    pub race_fit : seen.race.0 ≤ piece_size
 
   pub seen_tells : (seen : Seen) → Walkable p.heads p.links x
       → seen ≡ seen_over bs e p.procedures p.sets (slots_of p.heads p.links x) nothing_seen → Told seen
@@ -221,7 +217,7 @@ module _ (bs : List Bags) (x : ℕ) (e : Entry) (p : Pieces) (slots : Slots) whe
       let ss = slots_of p.heads p.links x in
       let procedures = p.procedures in
       let sets = p.sets in
-      let race = ap (λ (s : Seen). s.race) is ∙ race_seen bs e procedures sets ss nothing_seen in
+      let race = ap (λ (s : Seen). s.race.0) is ∙ race_seen bs e procedures sets ss nothing_seen in
       record {
         visits_told =
             ap (λ (s : Seen). s.visits) is ∙ visits_seen bs e procedures sets ss nothing_seen ∙ zero_more (length ss) ∙ sym (length-map ss (entry_at p));
@@ -230,7 +226,7 @@ module _ (bs : List Bags) (x : ℕ) (e : Entry) (p : Pieces) (slots : Slots) whe
             ∙ sym (any_of_map (entry_at p) (omits (parallel_by bs) e) ss);
         dropped_told =
             ap (λ (s : Seen). s.dropped) is ∙ dropped_seen bs e procedures sets ss nothing_seen ∙ zero_more (how_many (drops bs e p) ss);
-        last_told = ap (λ (s : Seen). s.last) is ∙ last_seen bs e procedures sets ss nothing_seen ∙ last_from_none (slots_left bs x e p);
+        last_told = ap (λ (s : Seen). s.last.0) is ∙ last_seen bs e procedures sets ss nothing_seen ∙ last_from_none (slots_left bs x e p);
         first_told = λ dropping.
             let counted = ap (λ (s : Seen). s.dropped) is ∙ dropped_seen bs e procedures sets ss nothing_seen ∙ zero_more _ in
             let found = first_seen bs e procedures sets ss nothing_seen refl (λ z. dropping (counted ∙ z)) in
@@ -239,8 +235,8 @@ module _ (bs : List Bags) (x : ℕ) (e : Entry) (p : Pieces) (slots : Slots) whe
               ahead = found.1;
               whole = found.2;
               none_passed = found.3;
-              named = ap (λ (s : Seen). s.before) is ∙ found.4 ∙ last_from_none found.0;
-              leads = ap (λ (s : Seen). s.first) is ∙ found.5;
+              named = ap (λ (s : Seen). s.before.0) is ∙ found.4 ∙ last_from_none found.0;
+              leads = ap (λ (s : Seen). s.first.0) is ∙ found.5;
             };
         race_told = ap (named_at p.events procedures sets) race ∙ race_found p (races (parallel_by bs) e) ss;
         race_fit = rw race (race_fits p.links (get_or p.heads x 0) (λ s. races (parallel_by bs) e (entry_at p s)) ss walkable.chain);

@@ -1,6 +1,6 @@
 -- The visits to a location's list: what is seen of each entry is what the rules say of it, so that what is seen in the end is what they say of the
 -- whole list. Assumes nothing.
-use Prim.Native.Nat.{ℕ, suc, ◌+◌, ◌-◌, ◌≤◌, ◌<◌}
+use Prim.Native.Nat.{ℕ, suc, ◌+◌, ◌≤◌, ◌<◌}
 use mathlib.Core.Path.{◌≡◌, refl, sym, ap, ◌∙◌}
 use mathlib.Core.Bool.{Bool, true, false, cond, not}
 use mathlib.Core.List.{List, [], ◌∷◌}
@@ -53,10 +53,10 @@ one_visit_more Stays at seen r q = ap (λ (s : Seen). s.visits) q
 one_visit_more Goes at seen r q = ap (λ (s : Seen). s.visits) q
 one_visit_more (Beside races omits) at seen r q = ap (λ (s : Seen). s.visits) q
 
-module _ (bs : List Bags) (e : Entry) (links procedures sets whole : List ℕ) where
-  abbrev entry : ℕ → Entry
-  entry s = entry_of (get_or procedures s 0) (get_or sets s 0)
+abbrev entry : (procedures sets : List ℕ) → ℕ → Entry
+entry procedures sets s = entry_of (get_or procedures s 0) (get_or sets s 0)
 
+module _ (bs : List Bags) (e : Entry) (links procedures sets whole : List ℕ) where
   -- The entries still to be visited, seen after those already seen, make up what is seen of the whole list; and none so far was in no bag.
   pub record Walking (seen : Seen) (at : ℕ) : Type 0 where
     pub rest : List ℕ
@@ -66,61 +66,58 @@ module _ (bs : List Bags) (e : Entry) (links procedures sets whole : List ℕ) w
     pub same : seen_over bs e procedures sets rest seen ≡ seen_over bs e procedures sets whole nothing_seen
     pub stray_ahead : some_stray bs e procedures sets rest ≡ some_stray bs e procedures sets whole
 
-  pub walk_begins : (at first : ℕ) (none : Seen) → at ≡ first → none ≡ nothing_seen → Chain links first whole → length whole ≤ piece_size → Walking none at
-  walk_begins at first none begins is chain few =
-      rw (begins, is) (record { rest = whole; chain = chain; counted = omega arith; fewer = omega arith; same = refl; stray_ahead = refl })
-
+module _ {bs : List Bags} {e : Entry} {links procedures sets whole : List ℕ} where
   -- While a link leads on, it leads to a slot within the pieces, and not everything is counted.
-  pub walk_inside : (seen : Seen) (at : ℕ) → Walking seen at → (at ≡ 0 → ⊥) → (at ≤ piece_size) × (seen.visits < piece_size)
+  pub walk_inside : {seen : Seen} {at slot : ℕ} → Walking bs e links procedures sets whole seen at → at ≡ suc slot → (slot < piece_size) × (seen.visits < piece_size)
   unfolding Chain
-  walk_inside seen at w ne = go w.rest w.chain w.counted
+  walk_inside {seen} {at} {slot} w leads = go w.rest w.chain w.counted
     where
-      go : (rest : List ℕ) → Chain links at rest → seen.visits + length rest ≤ piece_size → (at ≤ piece_size) × (seen.visits < piece_size)
-      go [] chain counted = absurd (ne chain)
+      go : (rest : List ℕ) → Chain links at rest → seen.visits + length rest ≤ piece_size → (slot < piece_size) × (seen.visits < piece_size)
+      go [] chain counted = absurd (omega (arith, chain, leads))
       go (s ∷ ss) chain counted = (omega (arith, chain.0, chain.1), omega arith)
 
   -- An entry in no bag is the answer.
-  pub walk_strays : (seen : Seen) (at : ℕ) {b : Bool} → Walking seen at → (at ≡ 0 → ⊥) → b ≡ in_some_bag (get_or procedures (at - 1) 0) bs → not b ≡ true
+  pub walk_strays : {seen : Seen} {at slot : ℕ} {b : Bool} → Walking bs e links procedures sets whole seen at → at ≡ suc slot → b ≡ in_some_bag (get_or procedures slot 0) bs → not b ≡ true
       → Err InNoBag ≡ looked_over bs e procedures sets whole
   unfolding Chain some_stray looked_over any
-  walk_strays seen at {b} w ne is stray = go w.rest w.chain w.stray_ahead
+  walk_strays {seen} {at} {slot} {b} w leads is stray = go w.rest w.chain w.stray_ahead
     where
       go : (rest : List ℕ) → Chain links at rest → some_stray bs e procedures sets rest ≡ some_stray bs e procedures sets whole
           → Err InNoBag ≡ looked_over bs e procedures sets whole
-      go [] chain ahead = absurd (ne chain)
+      go [] chain ahead = absurd (omega (arith, chain, leads))
       go (s ∷ ss) chain ahead =
-          let here : at - 1 ≡ s = omega (arith, chain.0) in
+          let here : slot ≡ s = omega (arith, chain.0, leads) in
           let gone : in_some_bag (get_or procedures s 0) bs ≡ false = rw here at (sym is ∙ not-true b stray) in
           rw (sym ahead, gone)
 
   -- Else it is weighed, and the walk goes on.
-  pub walk_goes_on : (seen : Seen) (at next : ℕ) (v : Weighed) (r : Seen) {b : Bool} → Walking seen at → (at ≡ 0 → ⊥)
-      → b ≡ in_some_bag (get_or procedures (at - 1) 0) bs → not b ≡ false
-      → ((at' : ℕ) (seen' : Seen) → into v at' seen' ≡ weighed_entry bs e at' (entry (at - 1)) seen') → r ≡ into v at seen
-      → next ≡ get_or links (at - 1) 0 → Walking r next
+  pub walk_goes_on : {seen : Seen} {at slot next : ℕ} (v : Weighed) {r : Seen} {b : Bool} → Walking bs e links procedures sets whole seen at → at ≡ suc slot
+      → b ≡ in_some_bag (get_or procedures slot 0) bs → not b ≡ false
+      → ((at' : ℕ) (seen' : Seen) → into v at' seen' ≡ weighed_entry bs e at' (entry procedures sets slot) seen') → r ≡ into v at seen
+      → next ≡ get_or links slot 0 → Walking bs e links procedures sets whole r next
   unfolding Chain seen_over weighed_entry some_stray any
-  walk_goes_on seen at next v r {b} w ne is bagged told q onward = go w.rest w.chain w.counted w.same w.stray_ahead
+  walk_goes_on {seen} {at} {slot} {next} v {r} {b} w leads is bagged told q onward = go w.rest w.chain w.counted w.same w.stray_ahead
     where
       go : (rest : List ℕ) → Chain links at rest → seen.visits + length rest ≤ piece_size
           → seen_over bs e procedures sets rest seen ≡ seen_over bs e procedures sets whole nothing_seen
-          → some_stray bs e procedures sets rest ≡ some_stray bs e procedures sets whole → Walking r next
-      go [] chain counted same ahead = absurd (ne chain)
+          → some_stray bs e procedures sets rest ≡ some_stray bs e procedures sets whole → Walking bs e links procedures sets whole r next
+      go [] chain counted same ahead = absurd (omega (arith, chain, leads))
       go (s ∷ ss) chain counted same ahead =
-          let here : at - 1 ≡ s = omega (arith, chain.0) in
-          let now : r ≡ weighed_entry bs e (suc s) (entry s) seen = rw (here, chain.0) at (q ∙ told at seen) in
+          let here : slot ≡ s = omega (arith, chain.0, leads) in
+          let now : r ≡ weighed_entry bs e (suc s) (entry procedures sets s) seen = rw (here, chain.0) at (q ∙ told at seen) in
           let found : in_some_bag (get_or procedures s 0) bs ≡ true = rw here at (sym is ∙ not-false b bagged) in
           record {
             rest = ss;
             chain = rw (onward, here) chain.2;
             counted = rw now (omega arith);
-            fewer = rw now (few_more (dropped (parallel_by bs) e (entry s)) seen.dropped seen.visits w.fewer);
+            fewer = rw now (few_more (dropped (parallel_by bs) e (entry procedures sets s)) seen.dropped seen.visits w.fewer);
             same = ap (seen_over bs e procedures sets ss) now ∙ same;
             stray_ahead = rw found at ahead;
           }
 
-  pub walk_ends : (seen : Seen) (at : ℕ) → Walking seen at → at ≡ 0 → Ok seen ≡ looked_over bs e procedures sets whole
+  pub walk_ends : {seen : Seen} {at : ℕ} → Walking bs e links procedures sets whole seen at → at ≡ 0 → Ok seen ≡ looked_over bs e procedures sets whole
   unfolding Chain seen_over some_stray looked_over any
-  walk_ends seen at w z = go w.rest w.chain w.same w.stray_ahead
+  walk_ends {seen} {at} w z = go w.rest w.chain w.same w.stray_ahead
     where
       go : (rest : List ℕ) → Chain links at rest → seen_over bs e procedures sets rest seen ≡ seen_over bs e procedures sets whole nothing_seen
           → some_stray bs e procedures sets rest ≡ some_stray bs e procedures sets whole → Ok seen ≡ looked_over bs e procedures sets whole

@@ -3,6 +3,7 @@ use Rattle.std.specs.Prelude.{ℕ, zero, suc, ◌+◌, ◌-◌, ◌≤◌, ◌<�
 use Rattle.bags.specs.Bags.{Bags}
 use Rattle.kept.specs.declared.Entry.{Entry}
 use Rattle.kept.specs.declared.Slots.{Slots}
+use Rattle.kept.specs.declared.Link.{Link}
 use Rattle.kept.specs.declared.Seen.{Seen}
 use Rattle.kept.specs.declared.NotKept.{NotKept}
 use Rattle.kept.specs.declared.NotKept.TheVariants.{InNoBag}
@@ -17,19 +18,27 @@ use Rattle.kept.specs.Access.{parallel_by, in_no_bag, place_at, freeing, link_to
 abbrev pub entry_of : ℕ → ℕ → Entry
 entry_of procedure locks = record { event = record { 0 = 0 }; procedure = record { 0 = procedure }; locks = locks }
 
+-- A link; and the slot that it leads to.
+abbrev pub link : ℕ → Link
+link at = record { 0 = at }
+
+abbrev pub slot_at : ℕ → Option ℕ
+slot_at zero = None
+slot_at (suc s) = Some s
+
 -- Nothing is seen yet; one entry more, by what becomes of it or by the rules; and, at an access e, the entries in these slots one after the other.
 abbrev pub nothing_seen : Seen
-nothing_seen = record { visits = 0; race = 0; omitted = false; dropped = 0; last = 0; first = 0; before = 0 }
+nothing_seen = record { visits = 0; race = link 0; omitted = false; dropped = 0; last = link 0; first = link 0; before = link 0 }
 
 abbrev pub weighed : ℕ → Bool → Bool → Bool → Seen → Seen
 weighed at racing drops omits seen = record {
   visits = seen.visits + 1;
-  race = cond (racing && eqb seen.race 0) at seen.race;
+  race = link (cond (racing && eqb seen.race.0 0) at seen.race.0);
   omitted = seen.omitted || omits;
   dropped = cond drops (seen.dropped + 1) seen.dropped;
-  last = cond drops seen.last at;
-  first = cond (drops && eqb seen.dropped 0) at seen.first;
-  before = cond (drops && eqb seen.dropped 0) seen.last seen.before;
+  last = link (cond drops seen.last.0 at);
+  first = link (cond (drops && eqb seen.dropped 0) at seen.first.0);
+  before = link (cond (drops && eqb seen.dropped 0) seen.last.0 seen.before.0);
 }
 
 abbrev pub into : Weighed → ℕ → Seen → Seen

@@ -4,15 +4,15 @@
 // The lists are a value, `KeptLists`: `empty` sets them up, `access` brings one access in, and `clear` leaves the pieces zero.
 #![tactic(auto)]
 
-ghost use Rattle.std.specs.Prelude.{◌≡◌, false, ℕ, ◌≤◌, ◌<◌, ◌+◌, ◌-◌, [], ◌∷◌, ◌++◌, length, set, drop, replicate};
+ghost use Rattle.std.specs.Prelude.{◌≡◌, false, cond, ℕ, ◌≤◌, ◌<◌, ◌+◌, [], ◌∷◌, ◌++◌, eqb, length, set, drop, replicate};
 ghost use Rattle.bags.specs.Lent.{InRoom, bags_of};
 ghost use Rattle.kept.specs.declared.Seen.{Seen};
 ghost use Rattle.kept.specs.Rules.{dropped};
 ghost use Rattle.kept.specs.Pieces.{piece_size, slots_of, slots_freed, lists_in, LaidOut, Fits, Room, none_used, cleared};
 ghost use Rattle.kept.specs.Lent.{pieces_of, SameLoans, entries_kept};
 ghost use Rattle.kept.specs.Access.{parallel_by, code_of, access_code, accessed, number_of, slots_after, Accepted, AfterAccess};
-ghost use Rattle.kept.specs.Parts.{entry_of, nothing_seen, into, weighed_entry, seen_over, looked_over, is_full, Walkable, named_at};
-ghost use Rattle.kept.specs.Parts.{heads_linked, links_linked, drops_by, how_many, FirstDropped, Pruned, slot_for, slots_then};
+ghost use Rattle.kept.specs.Parts.{slot_at, entry_of, nothing_seen, into, weighed_entry, seen_over, looked_over, is_full, Walkable};
+ghost use Rattle.kept.specs.Parts.{named_at, heads_linked, links_linked, drops_by, how_many, FirstDropped, Pruned, slot_for, slots_then};
 
 use bags::ask::{Answer, ProcedureNumber, Runs};
 use locks::{apart, within};
@@ -21,7 +21,7 @@ use trace::EventNumber;
 // So many locations, and so many slots.
 const PIECE: usize = 4096;
 
-// An access that may be kept: the event's number, the procedure that makes it, and its lock set.
+// An access that may be kept: the event's number, the procedure that makes it, and its lock set, one word as 01 asks for it.
 #[derive(Clone, Copy, Debug, PartialEq, Eq)]
 pub struct Entry {
     pub event: EventNumber,
@@ -29,7 +29,8 @@ pub struct Entry {
     pub locks: u64,
 }
 
-// Which slots hold no entry: `freed` links those whose entry was dropped, and from `used` on they never held one.
+// Which slots hold no entry: `freed` links those whose entry was dropped, by a number as the pieces hold it, and from `used` on they
+// never held one.
 #[derive(Clone, Copy, Debug, Default, PartialEq, Eq)]
 pub struct Slots {
     pub freed: u32,
@@ -63,18 +64,23 @@ pub enum NotKept {
     Full = 13,
 }
 
+// A link, as the pieces hold it: it leads to a slot and names the entry there, or it leads nowhere and names none. (With an
+// `Option` in its place an access is slower.)
+#[derive(Clone, Copy)]
+struct Link(u32);
+
 // What the visits to a list have found so far: how many there were, the first entry that races, whether some entry leaves the access
-// out, how many are to be dropped, and the last entry that stays; and the first to be dropped, with the last that stays before it. An
-// entry is named by the link to its slot, 0 for none.
+// out, how many are to be dropped, and the last entry that stays; and the first to be dropped, with the last that stays before it.
+// Nothing compares or prints one, nor a `Weighed` or a `Link`.
 #[derive(Clone, Copy)]
 struct Seen {
     visits: u32,
-    race: usize,
+    race: Link,
     omitted: bool,
     dropped: u32,
-    last: usize,
-    first: usize,
-    before: usize,
+    last: Link,
+    first: Link,
+    before: Link,
 }
 
 // What becomes of an entry that is visited: it stays; it is dropped; or it is parallel with the access, and so stays, and may race with
@@ -95,6 +101,34 @@ impl NotKept {
     }
 }
 
+impl Link {
+    // The link that leads to a slot.
+    fn to(slot: usize) -> Link
+        requires { slot < piece_size }
+        ensures { result.0 ≡ slot + 1 }
+    {
+        Link(slot as u32 + 1)
+    }
+
+    // The slot that the link leads to.
+    fn slot(self) -> Option<usize>
+        ensures { result ≡ slot_at self.0 }
+    {
+        if self.0 == 0 {
+            None
+        } else {
+            Some(self.0 as usize - 1)
+        }
+    }
+
+    // This link, or the other where this one leads nowhere.
+    fn or(self, other: Link) -> Link
+        ensures { result ≡ cond (eqb self.0 0) other self }
+    {
+        if self.0 == 0 { other } else { self }
+    }
+}
+
 impl Seen {
     // Nothing is visited yet.
     fn nothing() -> Seen
@@ -102,20 +136,20 @@ impl Seen {
     {
         Seen {
             visits: 0,
-            race: 0,
+            race: Link(0),
             omitted: false,
             dropped: 0,
-            last: 0,
-            first: 0,
-            before: 0,
+            last: Link(0),
+            first: Link(0),
+            before: Link(0),
         }
     }
 
     // One entry more is visited, and this becomes of it.
-    fn and(self, at: usize, entry: Weighed) -> Seen
+    fn and(self, at: Link, entry: Weighed) -> Seen
         requires visits_lt_piece_size { self.visits < piece_size }
         requires dropped_le_visits { self.dropped ≤ self.visits }
-        ensures { result ≡ into entry at self }
+        ensures { result ≡ into entry at.0 self }
     {
         let visits = self.visits + 1;
         match entry {
@@ -137,11 +171,7 @@ impl Seen {
             },
             Weighed::Beside { races, omits } => Seen {
                 visits,
-                race: if races & (self.race == 0) {
-                    at
-                } else {
-                    self.race
-                },
+                race: if races { self.race.or(at) } else { self.race },
                 omitted: self.omitted | omits,
                 last: at,
                 ..self
@@ -162,15 +192,12 @@ impl Slots {
     fn next(self) -> usize
         ensures { result ≡ slot_for self }
     {
-        if self.freed == 0 {
-            self.used
-        } else {
-            self.freed as usize - 1
-        }
+        Link(self.freed).slot().unwrap_or(self.used)
     }
 }
 
-// The used part of a piece is zero, and the rest is as it was.
+// The used part of a piece is zero, and the rest is as it was. (With `fill` it was not proved for numbers of any width.)
+#[tactic(auto, using(crate::proofs::Clearing::clearing))]
 pub fn clear_piece<T: Copy>(piece: &mut [T], zero: T)
     requires { piece_size ≤ length piece.old }
     ensures { piece.new ≡ replicate piece_size zero ++ drop piece_size piece.old }
@@ -258,10 +285,10 @@ impl KeptLists<'_> {
         ensures lent { SameLoans self.old self.new }
     {
         let list = location as usize;
-        let first = self.heads[list] as usize;
-        if first != 0 {
-            if self.links[first - 1] == 0 {
-                return self.meet_one(list, first, entry, runs);
+        let first = Link(self.heads[list]);
+        if let Some(slot) = first.slot() {
+            if self.links[slot] == 0 {
+                return self.meet_one(list, first, slot, entry, runs);
             }
         }
         let seen = self.look(list, entry, runs)?;
@@ -276,25 +303,26 @@ impl KeptLists<'_> {
         })
     }
 
-    // The same where the list has one entry: if it is dropped, the new one takes its slot. Most lists are as short as that.
+    // The same where the list has one entry, in the slot that `first` leads to: if it is dropped, the new one takes its slot. Most lists
+    // are as short as that.
     fn meet_one(
         &mut self,
         location: usize,
-        first: usize,
+        first: Link,
+        slot: usize,
         entry: Entry,
         runs: &Runs<'_>,
     ) -> Result<Visited, NotKept>
         requires bags_room { InRoom runs.now }
         requires room { Room (pieces_of self.old) self.old.slots }
         requires location_lt_piece_size { location < piece_size }
-        requires first_nonzero { 0 < first }
-        requires location_value { slots_of self.old.heads.now self.old.links.now location ≡ (first - 1) ∷ [] }
+        requires first_value { first.0 ≡ slot + 1 }
+        requires location_value { slots_of self.old.heads.now self.old.links.now location ≡ slot ∷ [] }
         ensures result { result ≡ accessed (bags_of runs.now) location entry (lists_in (pieces_of self.old)) }
         ensures pieces { AfterAccess (bags_of runs.now) location entry (pieces_of self.old) self.old.slots
             (pieces_of self.new) self.new.slots result }
         ensures lent { SameLoans self.old self.new }
     {
-        let slot = first - 1;
         let procedure = ProcedureNumber(self.procedures[slot]);
         if !runs.in_some_bag(procedure) {
             return Err(NotKept::InNoBag);
@@ -365,52 +393,49 @@ impl KeptLists<'_> {
             (slots_of self.now.heads.now self.now.links.now location) }
     {
         let mut seen = Seen::nothing();
-        let mut at = self.heads[location] as usize;
-        while at != 0 {
-            let slot = at - 1;
+        let mut at = Link(self.heads[location]);
+        while let Some(slot) = at.slot() {
             let procedure = ProcedureNumber(self.procedures[slot]);
             if !runs.in_some_bag(procedure) {
                 return Err(NotKept::InNoBag);
             }
             let weighed = weigh(procedure, self.sets[slot], entry, runs);
             seen = seen.and(at, weighed);
-            at = self.links[slot] as usize;
+            at = Link(self.links[slot]);
         }
         Ok(seen)
     }
 
-    // The entry that a link leads to.
-    fn named_at(&self, at: usize) -> Option<Entry>
-        requires at_in_bounds { at ≤ length self.now.events.now }
-        requires at_in_bounds_2 { at ≤ length self.now.procedures.now }
-        requires at_in_bounds_3 { at ≤ length self.now.sets.now }
-        ensures { result ≡ named_at self.now.events.now self.now.procedures.now self.now.sets.now at }
+    // The entry that a link names.
+    fn named_at(&self, at: Link) -> Option<Entry>
+        requires at_in_bounds { at.0 ≤ length self.now.events.now }
+        requires at_in_bounds_2 { at.0 ≤ length self.now.procedures.now }
+        requires at_in_bounds_3 { at.0 ≤ length self.now.sets.now }
+        ensures { result ≡ named_at self.now.events.now self.now.procedures.now self.now.sets.now at.0 }
     {
-        if at == 0 {
-            return None;
+        match at.slot() {
+            None => None,
+            Some(slot) => Some(Entry {
+                event: EventNumber(self.events[slot]),
+                procedure: ProcedureNumber(self.procedures[slot]),
+                locks: self.sets[slot],
+            }),
         }
-        let slot = at - 1;
-        Some(Entry {
-            event: EventNumber(self.events[slot]),
-            procedure: ProcedureNumber(self.procedures[slot]),
-            locks: self.sets[slot],
-        })
     }
 
     // What comes after the entry that `last` names, or first in the location's list where it names none, is now what `to` leads to.
-    fn relink(&mut self, location: usize, last: usize, to: u32)
+    fn relink(&mut self, location: usize, last: Link, to: Link)
         requires location_in_bounds { location < length self.old.heads.now }
-        requires last_in_bounds { last ≤ length self.old.links.now }
-        ensures heads { self.new.heads.now ≡ heads_linked last location to self.old.heads.now }
-        ensures links { self.new.links.now ≡ links_linked last to self.old.links.now }
+        requires last_in_bounds { last.0 ≤ length self.old.links.now }
+        ensures heads { self.new.heads.now ≡ heads_linked last.0 location to.0 self.old.heads.now }
+        ensures links { self.new.links.now ≡ links_linked last.0 to.0 self.old.links.now }
         ensures entries { entries_kept self.old self.new }
         ensures slots { self.new.slots ≡ self.old.slots }
         ensures lent { SameLoans self.old self.new }
     {
-        if last == 0 {
-            self.heads[location] = to;
-        } else {
-            self.links[last - 1] = to;
+        match last.slot() {
+            None => self.heads[location] = to.0,
+            Some(slot) => self.links[slot] = to.0,
         }
     }
 
@@ -441,7 +466,7 @@ impl KeptLists<'_> {
             (slots_of self.old.heads.now self.old.links.now location) }
         requires first_dropped { (seen.dropped ≡ 0 → ⊥)
             → FirstDropped (drops_by (bags_of runs.now) entry self.old.procedures.now self.old.sets.now)
-            (slots_of self.old.heads.now self.old.links.now location) seen.first seen.before }
+            (slots_of self.old.heads.now self.old.links.now location) seen.first.0 seen.before.0 }
         ensures pruned { Pruned (drops_by (bags_of runs.now) entry self.old.procedures.now self.old.sets.now) location
             self.old.heads.now self.old.links.now self.old.slots self.new.heads.now self.new.links.now self.new.slots }
         ensures entries { entries_kept self.old self.new }
@@ -454,14 +479,15 @@ impl KeptLists<'_> {
         let mut at = seen.first;
         let mut left = seen.dropped;
         while left != 0 {
+            let Some(slot) = at.slot() else {
+                return;
+            };
             let here = at;
-            let slot = here - 1;
-            let next = self.links[slot];
-            at = next as usize;
+            at = Link(self.links[slot]);
             if self.drops(slot, entry, runs) {
-                self.relink(location, last, next);
+                self.relink(location, last, at);
                 self.links[slot] = self.slots.freed;
-                self.slots.freed = here as u32;
+                self.slots.freed = here.0;
                 left -= 1;
             } else {
                 last = here;
@@ -476,31 +502,30 @@ impl KeptLists<'_> {
         ensures { result ≡ slots_then self.now.links.now self.now.slots }
     {
         let slots = self.slots;
-        if slots.freed == 0 {
-            Slots {
+        match Link(slots.freed).slot() {
+            None => Slots {
                 used: slots.used + 1,
                 ..slots
-            }
-        } else {
-            Slots {
-                freed: self.links[slots.freed as usize - 1],
+            },
+            Some(slot) => Slots {
+                freed: self.links[slot],
                 ..slots
-            }
+            },
         }
     }
 
     // The entry is put at the end of a location's list, after the entry that `last` names.
-    fn append(&mut self, location: usize, last: usize, entry: Entry)
+    fn append(&mut self, location: usize, last: Link, entry: Entry)
         requires location_in_bounds { location < length self.old.heads.now }
-        requires last_le_piece_size { last ≤ piece_size }
+        requires last_le_piece_size { last.0 ≤ piece_size }
         requires freed_le_piece_size { self.old.slots.freed ≤ piece_size }
         requires used_le_piece_size { self.old.slots.used ≤ piece_size }
         requires slots_bound { slot_for self.old.slots < piece_size }
         requires fits { Fits (pieces_of self.old) }
         ensures slots { self.new.slots ≡ slots_then self.old.links.now self.old.slots }
-        ensures heads { self.new.heads.now ≡ heads_linked last location (slot_for self.old.slots + 1) self.old.heads.now }
+        ensures heads { self.new.heads.now ≡ heads_linked last.0 location (slot_for self.old.slots + 1) self.old.heads.now }
         ensures links { self.new.links.now
-            ≡ links_linked last (slot_for self.old.slots + 1) (set self.old.links.now (slot_for self.old.slots) 0) }
+            ≡ links_linked last.0 (slot_for self.old.slots + 1) (set self.old.links.now (slot_for self.old.slots) 0) }
         ensures events { self.new.events.now ≡ set self.old.events.now (slot_for self.old.slots) entry.event.0 }
         ensures procedures { self.new.procedures.now ≡ set self.old.procedures.now (slot_for self.old.slots) entry.procedure.0 }
         ensures sets { self.new.sets.now ≡ set self.old.sets.now (slot_for self.old.slots) entry.locks }
@@ -510,6 +535,6 @@ impl KeptLists<'_> {
         self.slots = self.slots_then();
         self.links[slot] = 0;
         self.store(slot, entry);
-        self.relink(location, last, slot as u32 + 1);
+        self.relink(location, last, Link::to(slot));
     }
 }

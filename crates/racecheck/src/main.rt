@@ -35,7 +35,7 @@ fn print_lines(
     Ok(())
 }
 
-// Lends the working room for one trace, and prints what the call returns and reports.
+// Lends the working room for one trace, arrays as 01 asks for them, and prints what the call returns and reports.
 fn check_and_print(rt: &impl Print, trace: &[u8]) -> io::Result<()> {
     let mut report = [[0u32; NUMBERS]; MOST_LINES];
     let mut heads = [0u32; PIECE];

@@ -11,11 +11,10 @@ use Rattle.std.specs.Prelude.{Result, Ok, Err, IsErrAnd}
 use Rattle.trace.specs.declared.Event.{Event}
 use Rattle.trace.specs.declared.Refusal.TheVariants.{BytesEnd, FormLong, Reserved, OperandLarge}
 use Rattle.trace.specs.Events.{code_of}
-use Rattle.trace.specs.Kinds.{as_number, reserved, largest_operand}
-use Rattle.trace.specs.Numbers.{most_groups}
+use Rattle.trace.specs.Kinds.{reserved, largest_operand}
 use Rattle.writer.specs.declared.Why.{Why}
 use Rattle.writer.specs.declared.Why.TheVariants.{Unreadable, Place}
-use Rattle.writer.specs.Form.{groups, bytes_of, bytes_of_all}
+use Rattle.writer.specs.Form.{bytes_of, bytes_of_all}
 use Rattle.writer.specs.Contract.{code_for, event_code, first_refused, list_code}
 use Rattle.writer.specs.Parts.{Judged}
 
@@ -41,10 +40,10 @@ module _ (room at : ℕ) (e : Event) where
   place_refused kind operand outside =
       rw (lt-leb reserved e.kind kind, le-ltb (largest_operand e) e.operand operand, lt-ltb room (at + length (bytes_of e)) outside)
 
-  pub not_refused : Fits room at e → event_code room at e ≡ 0
+  pub not_refused : e.kind < reserved → e.operand ≤ largest_operand e → at + length (bytes_of e) ≤ room → event_code room at e ≡ 0
   unfolding event_code
-  not_refused f =
-      rw (lt-leb reserved e.kind f.kind, le-ltb (largest_operand e) e.operand f.operand, le-ltb room (at + length (bytes_of e)) f.inside)
+  not_refused kind operand inside =
+      rw (lt-leb reserved e.kind kind, le-ltb (largest_operand e) e.operand operand, le-ltb room (at + length (bytes_of e)) inside)
 
   pub fits : event_code room at e ≡ 0 → Fits room at e
   unfolding event_code
@@ -57,18 +56,13 @@ module _ (room at : ℕ) (e : Event) where
       go false false true f g h z = omega arith
       go false false false f g h z = record { kind = leb-false _ _ f; operand = ltb-false _ _ g; inside = ltb-false _ _ h }
 
--- the bytes of an event are the groups of its number
-pub size_known : (e : Event) (number size : ℕ) → number ≡ as_number e → size ≡ length (groups most_groups number) → size ≡ length (bytes_of e)
-unfolding bytes_of
-size_known e number size is takes = takes ∙ ap (λ (n : ℕ). length (groups most_groups n)) is
-
 -- no refusal has code 0
-pub code_some : (why : Why) → code_for why ≡ 0 → ⊥
-code_some (Unreadable BytesEnd) none = omega arith
-code_some (Unreadable FormLong) none = omega arith
-code_some (Unreadable Reserved) none = omega arith
-code_some (Unreadable OperandLarge) none = omega arith
-code_some Place none = omega arith
+pub code_some : (why : Why) → 0 < code_for why
+code_some (Unreadable BytesEnd) = omega arith
+code_some (Unreadable FormLong) = omega arith
+code_some (Unreadable Reserved) = omega arith
+code_some (Unreadable OperandLarge) = omega arith
+code_some Place = omega arith
 
 -- a refusal that is handed on
 pub handed_on : (code next : ℕ) (r : Result ℕ Why) (why : Why) → IsErrAnd r (λ w. w ≡ why) → code ≡ code_for why → Judged code next r
@@ -82,8 +76,8 @@ module _ (room at : ℕ) (e : Event) (es : List Event) where
   unfolding list_code
   first_stops why is = go (code_for why) (code_some why) is
     where
-      go : (c : ℕ) → (c ≡ 0 → ⊥) → event_code room at e ≡ c → first_refused (event_code room at e) (list_code room (at + length (bytes_of e)) es) ≡ c
-      go zero some is = absurd (some refl)
+      go : (c : ℕ) → 0 < c → event_code room at e ≡ c → first_refused (event_code room at e) (list_code room (at + length (bytes_of e)) es) ≡ c
+      go zero some is = absurd (omega arith)
       go (suc c) some is = rw is
 
   pub first_passes : event_code room at e ≡ 0 → list_code room at (e ∷ es) ≡ list_code room (at + length (bytes_of e)) es

@@ -12,10 +12,9 @@ use borrow.Author.Tests.{lt-ltb, le-ltb}
 use Rattle.trace.specs.declared.Event.{Event}
 use Rattle.trace.specs.Numbers.{most_groups}
 use Rattle.trace.specs.Kinds.{as_number, reserved, largest_operand}
-use Rattle.trace.proofs.Laws.{operand_small}
+use Rattle.trace.proofs.Laws.{operand_small, unnamed}
 use Rattle.writer.specs.Form.{groups, bytes_of}
-use Rattle.writer.specs.Contract.{overwritten}
-use Rattle.writer.proofs.Codes.{Fits}
+use Rattle.writer.proofs.Codes.{Fits, fits, operand_refused, place_refused, not_refused, kind_refused, handed_on}
 
 -- ---- one group
 
@@ -40,7 +39,7 @@ groups_few (suc more) number =
       | no top ↦ rw (next_group more number (omega arith)) (suc-le-suc (groups_few more (number / 128)))
     ]
 
-groups_some : (more number : ℕ) → 0 < length (groups (suc more) number)
+pub groups_some : (more number : ℕ) → 0 < length (groups (suc more) number)
 groups_some more number =
     elim (dec_lt number 128) [
       | yes low ↦ rw (last_group more number low) (suc-le-suc zero-le)
@@ -69,15 +68,6 @@ module _ {number at next rest : ℕ} where
           let later : next + suc others ≡ at + length (groups most_groups number) = rw (next_group (suc more) rest top) at ends in
           record { more = more; small = rest_small (suc more) rest small; ends = omega arith }
 
-  pub last_remains : (r : Remains number at next rest) → rest < 128 → next + 1 ≡ at + length (groups most_groups number)
-  last_remains r low = rw (last_group r.more rest low) at r.ends
-
-  next_within : Remains number at next rest → next < at + length (groups most_groups number)
-  next_within r = omega (arith, r.ends, groups_some r.more rest)
-
-  pub next_near : Remains number at next rest → next < at + most_groups
-  next_near r = omega (arith, next_within r, groups_few most_groups number)
-
 -- ---- the number of an event that the table allows
 
 pub number_small : (e : Event) → e.kind < reserved → e.operand ≤ largest_operand e → as_number e < 128 ^ most_groups
@@ -86,49 +76,53 @@ number_small e kind operand = omega (arith, operand_small e operand)
 -- ---- writing them into a buffer: those left, stored from the next place on, make the whole
 
 pub record Putting (before : List ℕ) (at number : ℕ) (buffer : List ℕ) (next rest : ℕ) : Type 0 where
-  pub remains : Remains number at next rest
-  pub same : sets buffer next (groups (suc remains.more) rest) ≡ sets before at (groups most_groups number)
+  pub more : ℕ
+  pub small : rest < 128 ^ suc more
+  pub ends : next + length (groups (suc more) rest) ≡ at + length (groups most_groups number)
+  pub same : sets buffer next (groups (suc more) rest) ≡ sets before at (groups most_groups number)
   pub inside : at + length (groups most_groups number) ≤ length before
   pub long : length buffer ≡ length before
 
 -- an event that is not refused
 pub putting_begins : (before : List ℕ) (at : ℕ) (e : Event) (number : ℕ) → number ≡ as_number e → Fits (length before) at e
     → Putting before at number before at number
-unfolding bytes_of all_remain
+unfolding bytes_of
 putting_begins before at e number is f =
     rw is
     record {
-      remains = all_remain (as_number e) at (number_small e f.kind f.operand);
+      more = most_groups - 1;
+      small = number_small e f.kind f.operand;
+      ends = refl;
       same = refl;
       inside = f.inside;
       long = refl;
     }
 
 module _ {before : List ℕ} {at number : ℕ} {buffer : List ℕ} {next rest : ℕ} where
-  pub putting_inside : Putting before at number buffer next rest → next < length buffer
-  putting_inside p = omega (arith, next_within p.remains, p.inside, p.long)
-
   pub putting_goes_on : Putting before at number buffer next rest → 128 ≤ rest
       → Putting before at number (set buffer next (128 + rest % 128)) (next + 1) (rest / 128)
   unfolding one_written
-  putting_goes_on p top = go p.remains.more p.remains.small p.remains.ends p.same
+  putting_goes_on p top = go p.more p.small p.ends p.same
     where
       go : (more : ℕ) → rest < 128 ^ suc more → next + length (groups (suc more) rest) ≡ at + length (groups most_groups number)
           → sets buffer next (groups (suc more) rest) ≡ sets before at (groups most_groups number)
           → Putting before at number (set buffer next (128 + rest % 128)) (next + 1) (rest / 128)
       go zero small ends same = absurd (omega arith)
-      go (suc more) small ends same = record {
-        remains = one_written (record { more = suc more; small = small; ends = ends }) top;
-        same = rw (add-one next) (rw (next_group (suc more) rest top) at same);
-        inside = p.inside;
-        long = length-set buffer next (128 + rest % 128) ∙ p.long;
-      }
+      go (suc more) small ends same =
+          let r : Remains number at (next + 1) (rest / 128) = one_written (record { more = suc more; small = small; ends = ends }) top in
+          record {
+            more = more;
+            small = r.small;
+            ends = r.ends;
+            same = rw (add-one next) (rw (next_group (suc more) rest top) at same);
+            inside = p.inside;
+            long = length-set buffer next (128 + rest % 128) ∙ p.long;
+          }
 
-  pub putting_ends : Putting before at number buffer next rest → (e : Event) → number ≡ as_number e → rest < 128
-      → (next + 1 ≡ at + length (bytes_of e)) × (set buffer next rest ≡ overwritten before at (bytes_of e))
-  unfolding bytes_of
-  putting_ends p e is low =
-      rw (← is) (
-        last_remains p.remains low,
-        rw (last_group p.remains.more rest low) at p.same ∙ sets-eq (groups most_groups number) before at p.inside,
-      )
+-- ---- what the check is given: for counting groups, for judging an event, for writing it
+
+pub ruleset counting = (all_remain, one_written, last_group, groups_few, groups_some)
+
+pub ruleset deciding = (operand_refused, place_refused, not_refused, number_small, unnamed, kind_refused, handed_on)
+
+pub ruleset putting = (fits, putting_begins, putting_goes_on, last_group, groups_some, sets-eq)

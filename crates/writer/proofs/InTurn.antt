@@ -51,4 +51,4 @@ in_turn es es' before at r between r' after w none w' none' =
     left ∙ rw (place, first) (sym (sets-eq bytes' (sets before at bytes) (at + length bytes) (rw (length-sets before at bytes) (omega arith)))) in
     let both : after ≡ overwritten before at (bytes_of_all (es ++ es')) =
     then ∙ sym (sets_append bytes bytes' before at) ∙ ap (sets before at) (sym (bytes_append es es')) ∙ sets-eq (bytes_of_all (es ++ es')) before at inside_both in
-    wrote_all (es ++ es') before at r' after (none' ∙ sym passes-both) (omega arith ∙ sym (ap (λ (c : ℕ). next_place c at (es ++ es')) none')) none' both
+    wrote_all (es ++ es') before at r' after none' passes-both (omega arith) both

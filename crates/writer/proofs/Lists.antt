@@ -182,3 +182,9 @@ passes_ends pairs numbers i room at end passes =
         let e : Event = record { kind = kind; operand = no_operand } in
         absurd (missing_refused room at e refl (sym (one_alone room at e) ∙ passes))
     go (kind ∷ other ∷ others) few passes = absurd (omega arith)
+
+-- ---- what the check is given: for judging a list, for writing it
+
+pub ruleset judging = (all_left, one_behind, none_behind, judging_begins, judging_ends_alone, judging_ends_outside, judging_ends_inside)
+
+pub ruleset writing = (all_left, passes_ends, writing_begins, writing_ends)

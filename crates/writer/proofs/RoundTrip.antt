@@ -3,13 +3,13 @@
 -- and on the events. Assumes nothing.
 use Prim.Native.Nat.{ℕ, zero, suc, ◌+◌, ◌-◌, ◌/◌, ◌%◌, ◌^◌, ◌≤◌, ◌<◌}
 use mathlib.Core.Path.{◌≡◌, refl, sym, ap, ap₂, subst, ◌∙◌}
-use mathlib.Core.Logic.{◌≢◌, ◌⊎◌, ⊎_elim}
+use mathlib.Core.Logic.{◌⊎◌, ⊎_elim}
 use mathlib.Core.List.{List, [], ◌∷◌, ◌++◌, append-nil, append_assoc}
 use native.Mathlib.Omega.{arith}
 use native.Mathlib.Decide.{dec_lt}
 use lib.Dec.{lit<}
 use lib.ListN.{length, get_or, take, drop, length-append, length-drop, get_or-append}
-use lib.Seq.{get_or-drop, get_or-take, get_or-append-add, drop-drop, take-add, take_all, drop-append_seam, drop_at, take_at, length-take-le}
+use lib.Seq.{get_or-drop, get_or-take, get_or-append_right, drop-drop, take-add, take_all, drop-append_seam, drop_at, take_at, length-take-le}
 use Rattle.trace.specs.declared.Event.{Event}
 use Rattle.trace.specs.Numbers.{Bytes, most_groups, number_then, number_at}
 use Rattle.trace.specs.Kinds.{as_number, reserved, largest_operand}
@@ -153,7 +153,7 @@ passes_again trace at next (e ∷ es) bytes (after, is, rest) room at' inside =
     let f = found trace at e after is in
     let long = event_long trace at e after bytes is in
     let later = (again trace after next es bytes rest).0 in
-    let passes = not_refused room at' e (record { kind = f.kind; operand = f.operand; inside = omega arith }) in
+    let passes = not_refused room at' e f.kind f.operand (omega arith) in
     first_passes room at' e es passes ∙ passes_again trace after next es bytes rest room (at' + length (bytes_of e)) (omega arith)
 
 -- ---- so the contract is met where code, place and buffer are as they should be
@@ -170,17 +170,15 @@ outside before bytes at inside i =
     get_or-append front (drop end before) 0 i (omega arith) ∙ get_or-append (take at before) bytes 0 i (omega arith)
     ∙ get_or-take at before i 0 earlier)
     (λ (later : end ≤ i).
-    let place : i ≡ length front + (i - end) = omega arith in
-    let there : end + (i - end) ≡ i = omega arith in
-    ap (λ (k : ℕ). get_or (front ++ drop end before) k 0) place ∙ get_or-append-add front (drop end before) (i - end) 0 ∙ get_or-drop end before (i - end) 0
+    let there : end + (i - length front) ≡ i = omega arith in
+    get_or-append_right front (drop end before) i 0 (omega arith) ∙ get_or-drop end before (i - length front) 0
     ∙ ap (λ (k : ℕ). get_or before k 0) there)
 
-module _ (es : List Event) (before : List ℕ) (at : ℕ) (r : Written) (after : List ℕ) (code : r.code ≡ list_code (length before) at es)
-    (next : r.next ≡ next_place r.code at es) where
-  pub wrote_all : r.code ≡ 0 → after ≡ overwritten before at (bytes_of_all es) → Wrote es before at r after
+module _ (es : List Event) (before : List ℕ) (at : ℕ) (r : Written) where
+  pub wrote_all : (after : List ℕ) → r.code ≡ 0 → list_code (length before) at es ≡ 0 → r.next ≡ at + length (bytes_of_all es)
+      → after ≡ overwritten before at (bytes_of_all es) → Wrote es before at r after
   unfolding next_place buffer_after
-  wrote_all none left =
-      let passes : list_code (length before) at es ≡ 0 = sym code ∙ none in
+  wrote_all after none passes place left =
       let inside : at + length (bytes_of_all es) ≤ length before = list_inside (length before) at es passes in
       let front = take at before ++ bytes_of_all es in
       let taken : length (take at before) ≡ at = length-take-le at before (omega arith) in
@@ -189,10 +187,9 @@ module _ (es : List Event) (before : List ℕ) (at : ℕ) (r : Written) (after :
       ap (take (at + length (bytes_of_all es))) left ∙ take_at front (drop (at + length (bytes_of_all es)) before) (at + length (bytes_of_all es)) long in
       let from : (behind : List ℕ) → drop at (front ++ behind) ≡ bytes_of_all es ++ behind =
       λ behind. ap (drop at) (append_assoc (take at before) (bytes_of_all es) behind) ∙ drop_at (take at before) (bytes_of_all es ++ behind) at taken in
-      let place : r.next ≡ at + length (bytes_of_all es) = next ∙ ap (λ (c : ℕ). next_place c at es) none in
       record {
-        code = code;
-        next = next;
+        code = none ∙ sym passes;
+        next = place ∙ sym (ap (λ (c : ℕ). next_place c at es) none);
         buffer = left ∙ sym (ap (λ (c : ℕ). buffer_after c before at es) none);
         reads_back = λ z behind. rw (place, kept) (events_back (length before) (front ++ behind) at es behind passes (from behind));
         written_again = λ trace begin end bytes read room.
@@ -202,56 +199,38 @@ module _ (es : List Event) (before : List ℕ) (at : ℕ) (r : Written) (after :
         outside_kept = λ i far. ap (λ (l : List ℕ). get_or l i 0) left ∙ outside before (bytes_of_all es) at inside i (rw place at far);
       }
 
-  wrote_none : r.code ≢ 0 → after ≡ before → Wrote es before at r after
+  pub wrote_none : (why : Why) → list_code (length before) at es ≡ code_for why → (r.code ≡ code_for why) × (r.next ≡ at) → Wrote es before at r before
   unfolding next_place buffer_after
-  wrote_none some kept = record {
-    code = code;
-    next = next;
-    buffer = go r.code some;
-    reads_back = λ none behind. absurd (some none);
-    written_again = λ trace begin end bytes read room. absurd (some (code ∙ passes_again trace begin end es bytes read (length before) at room));
-    untouched = λ some. (next ∙ place r.code some, kept);
-    outside_kept = λ i far. ap (λ (l : List ℕ). get_or l i 0) kept;
-  }
+  wrote_none why judged is =
+      let some : 0 < r.code = rw is.0 (code_some why) in
+      record {
+        code = is.0 ∙ sym judged;
+        next = is.1 ∙ place r.code some;
+        buffer = kept r.code some;
+        reads_back = λ none behind. absurd (omega arith);
+        written_again = λ trace begin end bytes read room.
+            let passes = passes_again trace begin end es bytes read (length before) at room in
+            absurd (omega (arith, code_some why));
+        untouched = λ some. (is.1, refl);
+        outside_kept = λ i far. refl;
+      }
     where
-      go : (c : ℕ) → c ≢ 0 → after ≡ buffer_after c before at es
-      go zero some = absurd (some refl)
-      go (suc c) some = kept
+      kept : (c : ℕ) → 0 < c → before ≡ buffer_after c before at es
+      kept zero some = absurd (omega arith)
+      kept (suc c) some = refl
 
-      place : (c : ℕ) → c ≢ 0 → next_place c at es ≡ at
-      place zero some = absurd (some refl)
+      place : (c : ℕ) → 0 < c → at ≡ next_place c at es
+      place zero some = absurd (omega arith)
       place (suc c) some = refl
 
--- so what is given for a judged list, and what for an event, which is a list of one
-module _ (es : List Event) (before : List ℕ) (at : ℕ) {after : List ℕ} where
-  pub wrote_list : {next : ℕ} → (list_code (length before) at es ≡ 0) × (next ≡ at + length (bytes_of_all es))
-      → after ≡ overwritten before at (bytes_of_all es) → Wrote es before at (record { code = 0; next = next }) after
-  unfolding next_place
-  wrote_list {next} judged left = wrote_all es before at (record { code = 0; next = next }) after (sym judged.0) judged.1 refl left
-
-  pub refused_list : (why : Why) → list_code (length before) at es ≡ code_for why → (r : Written) → (r.code ≡ code_for why) × (r.next ≡ at)
-      → after ≡ before → Wrote es before at r after
-  unfolding next_place
-  refused_list why judged r is kept =
-      let some : r.code ≢ 0 = λ none. code_some why (sym is.0 ∙ none) in
-      wrote_none es before at r after (is.0 ∙ sym judged) (is.1 ∙ sym (place r.code some)) some kept
-    where
-      place : (c : ℕ) → c ≢ 0 → next_place c at es ≡ at
-      place zero some = absurd (some refl)
-      place (suc c) some = refl
-
-module _ (e : Event) (before : List ℕ) (at : ℕ) {after : List ℕ} where
-  pub wrote_one : {next : ℕ} → (event_code (length before) at e ≡ 0) × (next ≡ at + length (bytes_of e))
-      → after ≡ overwritten before at (bytes_of e) → Wrote (e ∷ []) before at (record { code = 0; next = next }) after
-  unfolding bytes_of_all
-  wrote_one judged left =
-      let one : bytes_of e ++ [] ≡ bytes_of e = append-nil (bytes_of e) in
-      wrote_list (e ∷ []) before at (one_alone (length before) at e ∙ judged.0, judged.1 ∙ ap (λ (l : List ℕ). at + length l) (sym one))
-      (left ∙ ap (overwritten before at) (sym one))
-
-  pub refused_one : (why : Why) → event_code (length before) at e ≡ code_for why → (r : Written) → (r.code ≡ code_for why) × (r.next ≡ at)
-      → after ≡ before → Wrote (e ∷ []) before at r after
-  refused_one why judged = refused_list (e ∷ []) before at why (one_alone (length before) at e ∙ judged)
+-- an event is a list of one
+pub wrote_one : (e : Event) (before : List ℕ) (at : ℕ) (r : Written) (after : List ℕ) → r.code ≡ 0 → event_code (length before) at e ≡ 0
+    → r.next ≡ at + length (bytes_of e) → after ≡ overwritten before at (bytes_of e) → Wrote (e ∷ []) before at r after
+unfolding bytes_of_all
+wrote_one e before at r after none passes place left =
+    let one : bytes_of e ++ [] ≡ bytes_of e = append-nil (bytes_of e) in
+    wrote_all (e ∷ []) before at r after none (one_alone (length before) at e ∙ passes) (place ∙ ap (λ (l : List ℕ). at + length l) (sym one))
+    (left ∙ ap (overwritten before at) (sym one))
 
 -- ---- every list of events can be lent as numbers
 

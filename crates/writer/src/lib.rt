@@ -39,6 +39,7 @@ impl From<Refusal> for Why {
 }
 
 impl Why {
+    // The code that stands for it; a refusal of the reader has its own.
     fn code(self) -> u32
         ensures { result ≡ code_for self }
     {
@@ -87,6 +88,7 @@ pub fn write_events(buffer: &mut [u8], at: usize, events: &[u32]) -> Written
 }
 
 // The number of an event that the table allows.
+#[tactic(auto, using(trace::proofs::Laws::operand_small))]
 fn number_of(event: Event) -> u32
     requires kind_lt_reserved { event.kind < reserved }
     requires operand_bound { event.operand ≤ largest_operand event }
@@ -96,6 +98,7 @@ fn number_of(event: Event) -> u32
 }
 
 // How many groups a number takes.
+#[tactic(auto, using(crate::proofs::Groups::counting))]
 fn size_of(number: u32) -> usize
     requires { number < 128 ^ most_groups }
     ensures { result ≡ length (groups most_groups number) }
@@ -110,7 +113,7 @@ fn size_of(number: u32) -> usize
 }
 
 // Where the next event goes after one that is put at a place in so much room, or why that one is refused.
-#[tactic(auto, using(crate::proofs::Codes::operand_refused, crate::proofs::Codes::place_refused))]
+#[tactic(auto, unfolding(crate::specs::Form::bytes_of), using(crate::proofs::Groups::deciding))]
 fn judge(room: usize, at: usize, event: Event) -> Result<usize, Why>
     ensures { Judged (event_code room at event) (at + length (bytes_of event)) result }
 {
@@ -129,6 +132,7 @@ fn judge(room: usize, at: usize, event: Event) -> Result<usize, Why>
 }
 
 // Writes an event that is not refused, and says where the next one goes.
+#[tactic(auto, unfolding(crate::specs::Form::bytes_of), using(crate::proofs::Groups::putting))]
 fn put(buffer: &mut [u8], at: usize, event: Event) -> usize
     requires { event_code (length buffer.old) at event ≡ 0 }
     ensures { (result ≡ at + length (bytes_of event)) × (buffer.new ≡ overwritten buffer.old at (bytes_of event)) }
@@ -145,6 +149,7 @@ fn put(buffer: &mut [u8], at: usize, event: Event) -> usize
 }
 
 // The same of a list of events. It is as numbers, a kind and an operand in turn; a last kind may have no operand.
+#[tactic(auto, using(crate::proofs::Lists::judging))]
 fn judge_all(room: usize, at: usize, events: &[u32]) -> Result<usize, Why>
     ensures { Judged (list_code room at (events_in events.now)) (at + length (bytes_of_all (events_in events.now))) result }
 {
@@ -170,6 +175,7 @@ fn judge_all(room: usize, at: usize, events: &[u32]) -> Result<usize, Why>
 }
 
 // Writes a list of events, none of which is refused.
+#[tactic(auto, using(crate::proofs::Lists::writing))]
 fn put_all(buffer: &mut [u8], at: usize, events: &[u32])
     requires { list_code (length buffer.old) at (events_in events.now) ≡ 0 }
     ensures { buffer.new ≡ overwritten buffer.old at (bytes_of_all (events_in events.now)) }

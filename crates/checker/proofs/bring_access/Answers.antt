@@ -1,9 +1,8 @@
 -- `bring_access` brings in an access: each way out is a law of `Bringing`. Assumes nothing.
-use mathlib.Core.Path.{◌≡◌, ap, ◌∙◌}
-use mathlib.Core.Bool.{Bool}
+use mathlib.Core.Path.{◌≡◌}
+use native.Mathlib.Omega.{arith}
 use borrow.Author.Rules.{rules}
 use Rattle.std.specs.Prelude.{Err}
-use Rattle.locks.specs.Sets.{set_of_access}
 use Rattle.checker.specs.declared.End.TheVariants.{NotKept}
 use Rattle.checker.proofs.Bringing.{entry_told, access_refused, access_goes_on}
 use Rattle.checker.proofs.bring_access.Goals as goal
@@ -11,20 +10,16 @@ use Rattle.checker.proofs.bring_access.Goals as goal
 -- The entry is the one that the run has, whatever trace the event comes from.
 pub returns-in_err-visits-clause-step : goal.returns-in_err-visits-clause-step
 returns-in_err-visits-clause-step c = λ trace n.
-    let ours = entry_told trace c.args.report.now _ _ _ _ _ n _ _ (c.running.ensures.runner _ _ c.requires.safe.bags_room)
-    (c.set_of_access.ensures ∙ ap (λ (reads : Bool). set_of_access reads c.args.state.held.bits) c.is_read.ensures) in
+    let ours = entry_told n c.args.report.now _ c.set_of_access.result (c.running.ensures.runner _ _ c.requires.safe.bags_room) (cc) in
     let gives = c.in_err-visits.ensures in
     let ended : c.from_residual.result ≡ Err (NotKept c.in_err-visits.field-0.0) = search rules in
     rw ended
-    (access_refused trace _ _ _ _ _ _ n _ c.location-location.ensures _ ours c.requires.event_value
-    (rw c.location-location.ensures c.requires.event_bound) _ _ (gives.result, gives.pieces))
+    (access_refused n _ _ c.location-location.ensures _ ours c.requires.event_value (omega arith) _ _ (gives.result, gives.pieces))
 
 pub returns-clause-step : goal.returns-clause-step
 returns-clause-step c = λ trace n.
-    let ours = entry_told trace c.args.report.now _ _ _ _ _ n _ _ (c.running.ensures.runner _ _ c.requires.safe.bags_room)
-    (c.set_of_access.ensures ∙ ap (λ (reads : Bool). set_of_access reads c.args.state.held.bits) c.is_read.ensures) in
+    let ours = entry_told n c.args.report.now _ c.set_of_access.result (c.running.ensures.runner _ _ c.requires.safe.bags_room) (cc) in
     let gives = c.in_ok-visits.ensures in
     rw c.after.ensures
-    (access_goes_on trace _ _ _ _ _ _ n _ c.location-location.ensures _ ours c.requires.event_value
-    (rw c.location-location.ensures c.requires.event_bound) _ _ _ _ (gives.result, gives.pieces) c.note-races.ensures.result
+    (access_goes_on n _ _ c.location-location.ensures _ ours c.requires.event_value (omega arith) _ _ _ _ (gives.result, gives.pieces) c.note-races.ensures.result
     c.note-races.ensures.report)

@@ -1,4 +1,4 @@
--- The search: the place that is sought is `at` or lies below it, and `at` falls; what is left is searched by halves. Assumes nothing.
+-- The search: what is left after the places that are tried one by one is searched by halves. Assumes nothing.
 use Prim.Native.Nat.{◌≤◌, ◌-◌, ◌+◌}
 use native.Mathlib.Omega.{arith}
 use lib.Dec.{leb}

@@ -11,8 +11,8 @@ use Rattle.kept.proofs.KeptLists.prune.Given as goal
 abbrev pub invariant-loop-left : goal.invariant-loop-left
 invariant-loop-left l =
     Pruning (drops_by (bags_of l.runs) l.entry l.initial.self.procedures.now l.initial.self.sets.now) l.location l.initial.self.heads.now l.initial.self.links.now
-    l.initial.self.slots l.self.heads.now l.self.links.now l.self.slots.freed l.last l.at l.left
+    l.initial.self.slots l.self.heads.now l.self.links.now l.self.slots.freed l.last.0 l.at.0 l.left
     × (l.self.slots.used ≡ l.initial.self.slots.used) × entries_kept l.initial.self l.self × SameLoans l.initial.self l.self
 
 abbrev pub decreases-loop-left : goal.decreases-loop-left
-decreases-loop-left l = length (slots_from piece_size l.self.links.now l.at)
+decreases-loop-left l = length (slots_from piece_size l.self.links.now l.at.0)
