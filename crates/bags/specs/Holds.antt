@@ -16,8 +16,8 @@ module _ (events : ℕ → Act) where
     pub begun_held : pairs.begun ≡ begun events k
     pub bags_held : bags_in starts joins pairs ≡ bags events k
 
-  -- So they do once main has begun [holds-first], and after each event [holds-next]; an event that is no spawn, return or sync leaves them as they
-  -- are [holds-other].
+  -- So they do once main has begun [holds_first], and after each event [holds_next]; an event that is no spawn, return or sync leaves them as they
+  -- are [holds_other].
   abbrev pub HoldsFirst : Type 0
   HoldsFirst = (starts joins starts' joins' : List ℕ) (pairs : Pairs) → Begins starts joins starts' joins' pairs → Holds 0 starts' joins' pairs
 
@@ -30,7 +30,7 @@ module _ (events : ℕ → Act) where
   HoldsOther = (k : ℕ) (starts joins : List ℕ) (pairs : Pairs) → events k ≡ other → Holds k starts joins pairs → Holds (suc k) starts joins pairs
 
   -- Then the answer of `ask` about the maker of an earlier event i that is no return is "in parallel" exactly if i and event k are parallel, and
-  -- "in series" exactly if i precedes it, main being open [ask-agrees].
+  -- "in series" exactly if i precedes it, main being open [ask_agrees].
   abbrev pub AskAgrees : Type 0
   AskAgrees =
       (i k : ℕ) (starts joins : List ℕ) (pairs : Pairs) → Holds k starts joins pairs → is_main_open events k ≡ true → i < k → events i ≢ return

@@ -1,6 +1,5 @@
 -- What main's beginning and each event make of the pieces.
-use Rattle.std.specs.Prelude.{ℕ, ◌+◌, ◌≤◌, ◌<◌, ◌≡◌, cond, ltb, set, drop}
-use Rattle.std.specs.Prelude.{Result, Ok, Err}
+use Rattle.std.specs.Prelude.{ℕ, ◌+◌, ◌≤◌, ◌<◌, ◌≡◌, cond, ltb, set, drop, Result, Ok, Err}
 use mathlib.Core.List.{List, [], ◌∷◌, head_d, map}
 use Rattle.bags.specs.declared.ask.Pairs.{Pairs}
 use Rattle.bags.specs.declared.Full.{Full}

@@ -27,8 +27,8 @@ pub record RestsKept (p p' : Pieces) : Type 0 where
   pub sets : RestKept piece_size p.sets p'.sets
 
 module _ (run : Run) where
-  -- Once the heads are cleared, the pieces hold the lists that are kept at first, whatever the other pieces hold [holds-first]. An event that is no
-  -- access changes nothing [holds-other].
+  -- Once the heads are cleared, the pieces hold the lists that are kept at first, whatever the other pieces hold [holds_first]. An event that is no
+  -- access changes nothing [holds_other].
   abbrev pub HoldsFirst : Type 0
   HoldsFirst =
       (p : Pieces) → Fits p → Holds (kept run 0) (pieces (cleared piece_size p.heads) p.links p.events p.procedures p.sets) none_used
@@ -60,15 +60,15 @@ module _ (run : Run) where
   HoldsAfter k bs p' slots' (Err Full) =
       (any (in_no_bag bs) (visited run k) ≡ false) × (piece_size < in_all piece_size (kept run (suc k))) × Holds (kept run k) p' slots'
 
-  -- So it is, by what `access` promises [holds-next].
+  -- So it is, by what `access` promises [holds_next].
   abbrev pub HoldsNext : Type 0
   HoldsNext =
       (k : ℕ) (bs : List Bags) (x : ℕ) (e : Entry) (p : Pieces) (slots : Slots) (p' : Pieces) (slots' : Slots) (r : Result Visited NotKept)
       → x < piece_size → AccessIs k bs x e → Holds (kept run k) p slots → r ≡ accessed bs x e (lists_in p)
       → AfterAccess bs x e p slots p' slots' r → HoldsAfter k bs p' slots' r × RestsKept p p'
 
--- Clearing keeps what lies past [cleared-rest]; it makes the same of pieces with the same rest [cleared-same]; and a rest that is kept twice is
--- kept [rest-kept-on].
+-- Clearing keeps what lies past [cleared_rest]; it makes the same of pieces with the same rest [cleared_same]; and a rest that is kept twice is
+-- kept [rest_kept_on].
 abbrev pub ClearedRest : Type 0
 ClearedRest = (n : ℕ) (piece : List ℕ) → n ≤ length piece → RestKept n piece (cleared n piece)
 
