@@ -186,7 +186,7 @@ syncs starts joins pairs h =
     (sym (get_or-set_same joins (pairs.count - 1) pairs.begun 0 (omega (arith, h.main_open, h.joins_fit, h.pairs_fit))))
 
 -- The pairs with one less, the one at place `at` at hand: the one below, where there is one.
-abbrev back_to : List ℕ → List ℕ → Pairs → ℕ → Pairs
+abbrev pub back_to : List ℕ → List ℕ → Pairs → ℕ → Pairs
 back_to starts joins pairs at = record { count = pairs.count - 1; begun = pairs.begun; start = get_or starts at 0; join = get_or joins at 0 }
 
 pub returned : (starts joins : List ℕ) (pairs : Pairs) (at : ℕ) → at ≡ pairs.count - 2 → Room starts joins pairs

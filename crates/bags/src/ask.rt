@@ -2,7 +2,7 @@
 // knows pairs and nothing of the events that made them, so every family of traces whose bags are runs can share it.
 ghost use Rattle.std.specs.Prelude.{◌≡◌, cond, List, ℕ, ◌≤◌, ◌<◌, length, get_or, ltb};
 ghost use Rattle.bags.specs.Runs.{piece_size, bags_in, Room};
-ghost use Rattle.bags.specs.Lent.{InRoom, bags_of};
+ghost use Rattle.bags.specs.Lent.{InRoom, bags_of, AskedInRoom, bags_asked};
 ghost use Rattle.bags.specs.Ask.{answer_for, says_parallel, code_of};
 ghost use Rattle.bags.specs.Search.{Found, Rising};
 ghost use Rattle.bags.specs.Bags.{in_p_bag, in_some_bag};
@@ -29,6 +29,14 @@ pub struct Runs<'a> {
     pub pairs: Pairs,
 }
 
+// The same runs, lent with `&`: to ask of them takes no more than that.
+#[derive(Clone, Copy)]
+pub struct Asked<'a> {
+    pub starts: &'a [u32],
+    pub joins: &'a [u32],
+    pub pairs: Pairs,
+}
+
 // Where a procedure is.
 #[derive(Clone, Copy, Debug, PartialEq, Eq)]
 pub enum Answer {
@@ -41,13 +49,49 @@ pub enum Answer {
 const NEAR: usize = 8;
 
 impl Runs<'_> {
+    // These runs, to be read.
+    pub fn asked(&self) -> Asked<'_>
+        ensures starts { result.starts.now ≡ self.now.starts.now }
+        ensures joins { result.joins.now ≡ self.now.joins.now }
+        ensures pairs { result.pairs ≡ self.now.pairs }
+        ensures bags { bags_asked result ≡ bags_of self.now }
+        ensures room { InRoom self.now → AskedInRoom result }
+    {
+        Asked {
+            starts: self.starts,
+            joins: self.joins,
+            pairs: self.pairs,
+        }
+    }
+
     // Is this procedure in series or in parallel with what runs now, or in no bag?
-    #[tactic(auto, unfolding(crate::specs::Ask::answer_for, crate::specs::Bags::in_some_bag), using(crate::proofs::Pieces::in_no_bag, crate::proofs::Pieces::in_a_bag))]
     pub fn ask(&self, procedure: ProcedureNumber) -> Answer
         requires { InRoom self.now }
         ensures result { result ≡ answer_for procedure.0 (bags_of self.now) }
         ensures yes_or_no { says_parallel result ≡ in_p_bag procedure.0 (bags_of self.now) }
         ensures code { code_of result ≡ cond (in_some_bag procedure.0 (bags_of self.now)) 0 12 }
+    {
+        self.asked().ask(procedure)
+    }
+
+    // Is this procedure in a bag at all?
+    pub fn in_some_bag(&self, procedure: ProcedureNumber) -> bool
+        ensures result { result ≡ ltb procedure.0 self.now.pairs.begun }
+        ensures bags { (starts joins : List ℕ) → Room starts joins self.now.pairs
+            → result ≡ in_some_bag procedure.0 (bags_in starts joins self.now.pairs) }
+    {
+        self.asked().in_some_bag(procedure)
+    }
+}
+
+impl Asked<'_> {
+    // Is this procedure in series or in parallel with what runs now, or in no bag?
+    #[tactic(auto, unfolding(crate::specs::Ask::answer_for, crate::specs::Bags::in_some_bag), using(crate::proofs::Pieces::in_no_bag, crate::proofs::Pieces::in_a_bag))]
+    pub fn ask(&self, procedure: ProcedureNumber) -> Answer
+        requires { AskedInRoom self.now }
+        ensures result { result ≡ answer_for procedure.0 (bags_asked self.now) }
+        ensures yes_or_no { says_parallel result ≡ in_p_bag procedure.0 (bags_asked self.now) }
+        ensures code { code_of result ≡ cond (in_some_bag procedure.0 (bags_asked self.now)) 0 12 }
     {
         if self.pairs.begun <= procedure.0 {
             return Answer::InNoBag;
@@ -62,9 +106,9 @@ impl Runs<'_> {
     // Is this procedure, which is in some bag, in parallel with what runs now?
     #[tactic(auto, using(crate::proofs::Pieces::tells))]
     fn is_parallel(&self, procedure: ProcedureNumber) -> bool
-        requires room { InRoom self.now }
+        requires room { AskedInRoom self.now }
         requires procedure_lt_begun { procedure.0 < self.now.pairs.begun }
-        ensures { result ≡ in_p_bag procedure.0 (bags_of self.now) }
+        ensures { result ≡ in_p_bag procedure.0 (bags_asked self.now) }
     {
         let p = procedure.0;
         if self.pairs.start <= p {

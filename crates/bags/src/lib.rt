@@ -1,19 +1,19 @@
 // Which procedures are in series and which in parallel with what runs now. Nothing here knows of locks, locations or bytes.
 //
 // The bags of 002 are runs of procedure numbers, so two lent pieces hold them as a pair of numbers for each open procedure: `Runs`.
-// `begin` sets them up; `spawn`, `sync` and `returns` bring them forward by one event; the others only read. `ask` has a module of
-// its own.
+// `begin` sets them up; `spawn`, `sync` and `returns` bring them forward by one event; the others only read. What only reads can also
+// be asked of `Asked`, for which the pieces are lent with `&`. `ask` has a module of its own.
 #![tactic(auto)]
 
 ghost use Rattle.std.specs.Prelude.{◌≡◌, cond, List, ℕ, ◌≤◌, ◌<◌, ◌+◌, ◌-◌, length, set, get_or, ltb};
 ghost use Rattle.bags.specs.Parallel.{spawn, return, sync};
 ghost use Rattle.bags.specs.Runs.{piece_size, bags_in, Room};
-ghost use Rattle.bags.specs.Lent.{InRoom, SameLoans};
+ghost use Rattle.bags.specs.Lent.{InRoom, SameLoans, AskedInRoom};
 ghost use Rattle.bags.specs.Steps.{runner, Begins, Carries, most_begun, spawned, code_of, pairs_after, pushed, AfterSpawn};
 
 pub mod ask;
 
-use ask::{Pairs, ProcedureNumber, Runs};
+use ask::{Asked, Pairs, ProcedureNumber, Runs};
 
 // At most this many procedures may begin, main counted.
 const MOST_BEGUN: u32 = 4096;
@@ -93,8 +93,7 @@ impl Runs<'_> {
         self.pairs.join = begun;
     }
 
-    // The running procedure returns, and the one that spawned it runs again: its pair is at hand again. Where main returns there is
-    // none, and place 0 is read.
+    // The running procedure returns, and the one that spawned it runs again: its pair is at hand again.
     pub fn returns(&mut self)
         requires count_nonzero { 0 < self.old.pairs.count }
         requires count_in_bounds { self.old.pairs.count ≤ length self.old.starts.now }
@@ -112,13 +111,27 @@ impl Runs<'_> {
             self.new.starts.now self.new.joins.now self.new.pairs }
         ensures lent { SameLoans self.old self.new }
     {
-        let count = self.pairs.count;
-        let at = count.saturating_sub(2);
-        self.pairs.count = count - 1;
-        self.pairs.start = self.starts[at];
-        self.pairs.join = self.joins[at];
+        self.pairs = self.asked().returns();
     }
 
+    // The procedure that runs.
+    pub fn running(&self) -> ProcedureNumber
+        ensures result { result.0 ≡ self.now.pairs.start }
+        ensures runner { (starts joins : List ℕ) → Room starts joins self.now.pairs
+            → result.0 ≡ runner (bags_in starts joins self.now.pairs) }
+    {
+        self.asked().running()
+    }
+
+    // Has main not returned yet?
+    pub fn main_is_open(&self) -> bool
+        ensures { result ≡ ltb 0 self.now.pairs.count }
+    {
+        self.asked().main_is_open()
+    }
+}
+
+impl Asked<'_> {
     // The procedure that runs.
     #[tactic(auto, using(crate::proofs::Pieces::runner_held))]
     pub fn running(&self) -> ProcedureNumber
@@ -134,5 +147,29 @@ impl Runs<'_> {
         ensures { result ≡ ltb 0 self.now.pairs.count }
     {
         0 < self.pairs.count
+    }
+
+    // The pairs once the running procedure has returned, which changes nothing of the pieces. Where main returns, place 0 is read.
+    pub fn returns(&self) -> Pairs
+        requires count_nonzero { 0 < self.now.pairs.count }
+        requires count_in_bounds { self.now.pairs.count ≤ length self.now.starts.now }
+        requires count_in_bounds_2 { self.now.pairs.count ≤ length self.now.joins.now }
+        ensures result { result ≡ record {
+          count = self.now.pairs.count - 1;
+          begun = self.now.pairs.begun;
+          start = get_or self.now.starts.now (self.now.pairs.count - 2) 0;
+          join = get_or self.now.joins.now (self.now.pairs.count - 2) 0;
+        } }
+        ensures bags { AskedInRoom self.now
+            → Carries return self.now.starts.now self.now.joins.now self.now.pairs self.now.starts.now self.now.joins.now result }
+    {
+        let count = self.pairs.count;
+        let at = count.saturating_sub(2);
+        Pairs {
+            count: count - 1,
+            start: self.starts[at],
+            join: self.joins[at],
+            ..self.pairs
+        }
     }
 }

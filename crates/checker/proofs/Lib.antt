@@ -9,6 +9,7 @@ pub mod DemandsTwoAndThree
 pub mod Writing
 pub mod Bringing
 pub mod Stepping
+pub mod Numbers
 pub mod Loop
 pub mod ContractMet
 pub mod Laws

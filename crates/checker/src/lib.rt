@@ -334,7 +334,7 @@ fn bring_access(
         procedure: runs.running(),
         locks: state.held.set_of_access(event.is_read()),
     };
-    let Visited { visits, race } = lists.access(location, entry, runs)?;
+    let Visited { visits, race } = lists.access(location, entry, &runs.asked())?;
     let races = note(report, state.counts.races, location, entry, race);
     Ok(state.after(next, state.held, races, visits, 0))
 }

@@ -1,5 +1,6 @@
 pub mod Lists
 pub mod Covering
+pub mod Linking
 pub mod Clearing
 pub mod Visits
 pub mod Sums

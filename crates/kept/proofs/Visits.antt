@@ -2,12 +2,15 @@
 -- whole list. Assumes nothing.
 use Prim.Native.Nat.{ℕ, suc, ◌+◌, ◌≤◌, ◌<◌}
 use mathlib.Core.Path.{◌≡◌, refl, sym, ap, ◌∙◌}
-use mathlib.Core.Bool.{Bool, true, false, cond, not}
+use mathlib.Core.Bool.{Bool, true, false, cond, not, ◌||◌, and-false, true≢false}
 use mathlib.Core.List.{List, [], ◌∷◌}
 use native.Mathlib.Omega.{arith}
 use lib.ListN.{length, get_or}
 use borrow.Author.Tests.{not-true, not-false}
-use Rattle.bags.specs.Bags.{Bags, in_some_bag}
+use Rattle.locks.specs.Sets.{apart, within}
+use Rattle.bags.specs.declared.ask.Answer.{Answer}
+use Rattle.bags.specs.Bags.{Bags, in_p_bag, in_some_bag}
+use Rattle.bags.specs.Ask.{says_parallel}
 use Rattle.kept.specs.declared.Entry.{Entry}
 use Rattle.kept.specs.declared.Seen.{Seen}
 use Rattle.kept.specs.declared.NotKept.TheVariants.{InNoBag}
@@ -19,6 +22,39 @@ use Rattle.kept.specs.Rules.{races, dropped, omits}
 use Rattle.kept.specs.Pieces.{piece_size, Chain}
 use Rattle.kept.specs.Access.{parallel_by}
 use Rattle.kept.specs.Parts.{entry_of, nothing_seen, into, is_dropped, weighed_entry, seen_over, some_stray, looked_over}
+
+-- ---- one entry
+
+module _ (bs : List Bags) (e : Entry) (at procedure locks : ℕ) (seen : Seen) {a w c : Bool} (apart-is : a ≡ apart locks e.locks)
+    (within-is : w ≡ within locks e.locks) (contains-is : c ≡ within e.locks locks) where
+  abbrev told : Seen
+  told = weighed_entry bs e at (entry_of procedure locks) seen
+
+  -- Where the sets share something and neither lies within the other, "parallel" plays no part.
+  pub stays_unasked : not ((a || w) || c) ≡ true → into Stays at seen ≡ told
+  unfolding weighed_entry races dropped omits
+  stays_unasked t = go a w c apart-is within-is contains-is t
+    where
+      go : (a w c : Bool) → a ≡ apart locks e.locks → w ≡ within locks e.locks → c ≡ within e.locks locks → not ((a || w) || c) ≡ true
+          → into Stays at seen ≡ told
+      go false false false p q s t = simp (sym p, sym q, sym s, and-false)
+      go true w c p q s t = absurd (true≢false (sym t))
+      go false true c p q s t = absurd (true≢false (sym t))
+      go false false true p q s t = absurd (true≢false (sym t))
+
+  -- Else the bags' answer tells.
+  module _ (answer : Answer) {parallel : Bool} (asked : says_parallel answer ≡ in_p_bag procedure bs) (said : parallel ≡ says_parallel answer) where
+    pub beside_asked : parallel ≡ true → into (Beside a w) at seen ≡ told
+    unfolding weighed_entry races dropped omits
+    beside_asked so = simp (sym asked ∙ sym said ∙ so, apart-is, within-is)
+
+    pub goes_asked : parallel ≡ false → c ≡ true → into Goes at seen ≡ told
+    unfolding weighed_entry races dropped omits
+    goes_asked not_so contains = simp (sym asked ∙ sym said ∙ not_so, sym contains-is ∙ contains)
+
+    pub stays_asked : parallel ≡ false → c ≡ false → into Stays at seen ≡ told
+    unfolding weighed_entry races dropped omits
+    stays_asked not_so contains = simp (sym asked ∙ sym said ∙ not_so, sym contains-is ∙ contains)
 
 -- What becomes of an entry says whether the rules drop it.
 pub dropped_told : (bs : List Bags) (e : Entry) (k : Entry) (v : Weighed) → ((at : ℕ) (seen : Seen) → into v at seen ≡ weighed_entry bs e at k seen)

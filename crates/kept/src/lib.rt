@@ -5,7 +5,7 @@
 #![tactic(auto)]
 
 ghost use Rattle.std.specs.Prelude.{◌≡◌, false, cond, ℕ, ◌≤◌, ◌<◌, ◌+◌, [], ◌∷◌, ◌++◌, eqb, length, set, drop, replicate};
-ghost use Rattle.bags.specs.Lent.{InRoom, bags_of};
+ghost use Rattle.bags.specs.Lent.{AskedInRoom as InRoom, bags_asked as bags_of};
 ghost use Rattle.kept.specs.declared.Seen.{Seen};
 ghost use Rattle.kept.specs.Rules.{dropped};
 ghost use Rattle.kept.specs.Pieces.{piece_size, slots_of, slots_freed, lists_in, LaidOut, Fits, Room, none_used, cleared};
@@ -14,7 +14,7 @@ ghost use Rattle.kept.specs.Access.{parallel_by, code_of, access_code, accessed,
 ghost use Rattle.kept.specs.Parts.{slot_at, entry_of, nothing_seen, into, weighed_entry, seen_over, looked_over, is_full, Walkable};
 ghost use Rattle.kept.specs.Parts.{named_at, heads_linked, links_linked, drops_by, how_many, FirstDropped, Pruned, slot_for, slots_then};
 
-use bags::ask::{Answer, ProcedureNumber, Runs};
+use bags::ask::{Answer, Asked, ProcedureNumber};
 use locks::{apart, within};
 use trace::EventNumber;
 
@@ -209,7 +209,7 @@ pub fn clear_piece<T: Copy>(piece: &mut [T], zero: T)
 
 // What becomes of the entry of that procedure, with those locks. The bags are asked only where the answer matters.
 #[tactic(auto, unfolding(crate::specs::Parts::weighed_entry, crate::specs::Rules::races, crate::specs::Rules::dropped, crate::specs::Rules::omits))]
-fn weigh(procedure: ProcedureNumber, locks: u64, entry: Entry, runs: &Runs<'_>) -> Weighed
+fn weigh(procedure: ProcedureNumber, locks: u64, entry: Entry, runs: &Asked<'_>) -> Weighed
     requires { InRoom runs.now }
     ensures { (at : ℕ) (seen : Seen)
         → into result at seen ≡ weighed_entry (bags_of runs.now) entry at (entry_of procedure.0 locks) seen }
@@ -273,7 +273,7 @@ impl KeptLists<'_> {
         &mut self,
         location: u32,
         entry: Entry,
-        runs: &Runs<'_>,
+        runs: &Asked<'_>,
     ) -> Result<Visited, NotKept>
         requires bags_room { InRoom runs.now }
         requires room { Room (pieces_of self.old) self.old.slots }
@@ -311,7 +311,7 @@ impl KeptLists<'_> {
         first: Link,
         slot: usize,
         entry: Entry,
-        runs: &Runs<'_>,
+        runs: &Asked<'_>,
     ) -> Result<Visited, NotKept>
         requires bags_room { InRoom runs.now }
         requires room { Room (pieces_of self.old) self.old.slots }
@@ -366,7 +366,7 @@ impl KeptLists<'_> {
     }
 
     // The dropped go, and the entry comes unless it is left out.
-    fn change(&mut self, location: usize, entry: Entry, seen: Seen, runs: &Runs<'_>)
+    fn change(&mut self, location: usize, entry: Entry, seen: Seen, runs: &Asked<'_>)
         requires bags_room { InRoom runs.now }
         requires room { Room (pieces_of self.old) self.old.slots }
         requires location_lt_piece_size { location < piece_size }
@@ -384,7 +384,7 @@ impl KeptLists<'_> {
     }
 
     // Every entry of a location's list is visited, unless one is found whose procedure is in no bag; nothing changes.
-    fn look(&self, location: usize, entry: Entry, runs: &Runs<'_>) -> Result<Seen, NotKept>
+    fn look(&self, location: usize, entry: Entry, runs: &Asked<'_>) -> Result<Seen, NotKept>
         requires bags_room { InRoom runs.now }
         requires walkable { Walkable self.now.heads.now self.now.links.now location }
         requires piece_size_in_bounds { piece_size ≤ length self.now.procedures.now }
@@ -440,7 +440,7 @@ impl KeptLists<'_> {
     }
 
     // Is the entry in a slot dropped?
-    fn drops(&self, slot: usize, entry: Entry, runs: &Runs<'_>) -> bool
+    fn drops(&self, slot: usize, entry: Entry, runs: &Asked<'_>) -> bool
         requires bags_room { InRoom runs.now }
         requires procedures_in_bounds { slot < length self.now.procedures.now }
         requires sets_in_bounds { slot < length self.now.sets.now }
@@ -456,7 +456,7 @@ impl KeptLists<'_> {
     }
 
     // The entries to be dropped, so many as were seen, are unlinked and their slots freed.
-    fn prune(&mut self, location: usize, entry: Entry, seen: Seen, runs: &Runs<'_>)
+    fn prune(&mut self, location: usize, entry: Entry, seen: Seen, runs: &Asked<'_>)
         requires bags_room { InRoom runs.now }
         requires location_lt_piece_size { location < piece_size }
         requires fits { Fits (pieces_of self.old) }

@@ -14,3 +14,10 @@ abbrev pub OneLeft :
     → ((κ : Lifetimes) → Arguments κ → Result κ → Exit κ → Type 0) → ((κ : Lifetimes) → Exit κ → Numbers) → Type 0
 OneLeft {Lifetimes} {Arguments} {Result} {Exit} contract left =
     (κ : Lifetimes) (a : Arguments κ) (x y : Result κ) (s s' : Exit κ) → contract κ a x s → contract κ a y s' → left κ s ≡ left κ s'
+
+-- And of what a result leads to: `given` reads it off the result.
+abbrev pub OneGiven :
+    {Lifetimes : Type 0} {Arguments Result Exit : Lifetimes → Type 0} {Numbers : Type 0}
+    → ((κ : Lifetimes) → Arguments κ → Result κ → Exit κ → Type 0) → ((κ : Lifetimes) → Result κ → Numbers) → Type 0
+OneGiven {Lifetimes} {Arguments} {Result} {Exit} contract given =
+    (κ : Lifetimes) (a : Arguments κ) (x y : Result κ) (s s' : Exit κ) → contract κ a x s → contract κ a y s' → given κ x ≡ given κ y

@@ -1,6 +1,9 @@
 // The program: reads a trace from standard input, has it checked, and prints the numbers returned and a line for each race.
 #![tactic(auto)]
 
+ghost use Rattle.std.specs.Prelude.{length};
+ghost use Rattle.std.specs.Io.{ReadsAtMost};
+
 use checker::{Answer, NUMBERS, PIECE};
 use std::io;
 use std::io::Read;
@@ -59,11 +62,26 @@ fn check_and_print(rt: &impl Print, trace: &[u8]) -> io::Result<()> {
     print_lines(rt, answer, &report)
 }
 
+// Reads until the buffer is full or the input ends, each time as much as is left, and answers how many bytes it put at the start of
+// the buffer. (`io::copy` reads 8,192 bytes at most at a time, which cuts what comes as one message.)
+fn read_full(reader: &mut impl Read, buffer: &mut [u8]) -> io::Result<usize>
+    ensures { ReadsAtMost result buffer.new }
+{
+    let mut done = 0;
+    while done < buffer.len() {
+        let count = reader.read(&mut buffer[done..])?;
+        if count == 0 {
+            break;
+        }
+        done += count;
+    }
+    Ok(done)
+}
+
 // Reads the trace, and one byte more if there is one, and has it checked, unless it is too long.
 fn main(rt: HostRuntime) -> io::Result<()> {
     let mut trace = [0u8; MOST_BYTES + 1];
-    let mut input = rt.stdin().take(MOST_BYTES as u64 + 1);
-    let length = io::copy(&mut input, &mut &mut trace[..])? as usize;
+    let length = read_full(&mut rt.stdin(), &mut trace)?;
     if length > MOST_BYTES {
         return println!(rt; "too long");
     }

@@ -67,7 +67,7 @@ begins trace at = record { led = zero-le; few = zero-le; worth = refl; weighs = 
 
 module _ {trace : List ℕ} {at sum weight i : ℕ} (g : Gathered trace at sum weight i) where
   -- so many groups are worth less than the next one weighs, and 128 times that is at most 128 ^ most_groups
-  sum_small : sum < weight
+  pub sum_small : sum < weight
   sum_small = rw (g.worth, g.weighs) (value_small (drop at trace) i)
 
   pub weight_small : i < most_groups → weight * 128 ≤ 128 ^ most_groups

@@ -72,6 +72,10 @@ handed_on code next (Err w) why handed is = is ∙ ap code_for (sym handed)
 -- ---- a list
 
 module _ (room at : ℕ) (e : Event) (es : List Event) where
+  pub first_refused_lem : (c : ℕ) → event_code room at e ≡ suc c → suc c ≡ list_code room at (e ∷ es)
+  unfolding list_code
+  first_refused_lem c is = rw is
+
   pub first_stops : (why : Why) → event_code room at e ≡ code_for why → list_code room at (e ∷ es) ≡ code_for why
   unfolding list_code
   first_stops why is = go (code_for why) (code_some why) is

@@ -83,7 +83,7 @@ pub fn write_events(buffer: &mut [u8], at: usize, events: &[u32]) -> Written
             put_all(buffer, at, events);
             Written { code: 0, next }
         }
-        Err(why) => refused(why, at),
+        Err(first) => refused(first, at),
     }
 }
 

@@ -5,7 +5,7 @@ use mathlib.Core.Path.{◌≡◌}
 use native.Mathlib.Omega.{arith}
 use borrow.Author.Rules.{rules}
 use Rattle.std.specs.Prelude.{Err}
-use Rattle.bags.specs.Lent.{bags_of}
+use Rattle.bags.specs.Lent.{bags_asked as bags_of}
 use Rattle.kept.specs.Pieces.{slots_of, lists_in}
 use Rattle.kept.specs.Lent.{pieces_of}
 use Rattle.kept.specs.Access.{code_of, in_no_bag, accessed}

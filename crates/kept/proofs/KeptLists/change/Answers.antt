@@ -8,7 +8,7 @@ use borrow.Author.Tests.{not-true, not-false}
 use Rattle.kept.specs.Parts.{slot_for}
 use Rattle.kept.specs.Pieces.{piece_size}
 use Rattle.kept.specs.Lent.{pieces_of}
-use Rattle.bags.specs.Lent.{bags_of}
+use Rattle.bags.specs.Lent.{bags_asked as bags_of}
 use Rattle.kept.proofs.Telling.{Told, seen_tells, dropped_counted, room_walkable}
 use Rattle.kept.proofs.Accepting.{left_out, append_fits, entry_added}
 use Rattle.kept.proofs.KeptLists.change.Goals as goal

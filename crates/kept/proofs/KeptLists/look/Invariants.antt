@@ -1,6 +1,6 @@
 -- `look` visits the slots of the list one after the other. Assumes nothing.
 use Prim.Native.Nat.{◌-◌}
-use Rattle.bags.specs.Lent.{bags_of}
+use Rattle.bags.specs.Lent.{bags_asked as bags_of}
 use Rattle.kept.specs.Pieces.{piece_size, slots_of}
 use Rattle.kept.proofs.Visits.{Walking}
 use Rattle.kept.proofs.KeptLists.look.Given as goal

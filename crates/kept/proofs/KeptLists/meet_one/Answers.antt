@@ -3,7 +3,7 @@ use mathlib.Core.Bool.{false}
 use mathlib.Core.Path.{◌≡◌, refl, sym, ◌∙◌}
 use native.Mathlib.Omega.{arith}
 use borrow.Author.Rules.{rules}
-use Rattle.bags.specs.Lent.{bags_of}
+use Rattle.bags.specs.Lent.{bags_asked as bags_of}
 use Rattle.kept.specs.Lists.{any}
 use Rattle.kept.specs.Lent.{pieces_of}
 use Rattle.kept.specs.Pieces.{lists_in}

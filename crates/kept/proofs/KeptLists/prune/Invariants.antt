@@ -1,7 +1,7 @@
 -- `prune` walks the list until none is left to drop; each step is a law of `Pruning`. Assumes nothing.
 use mathlib.Core.Path.{◌≡◌}
 use lib.ListN.{length}
-use Rattle.bags.specs.Lent.{bags_of}
+use Rattle.bags.specs.Lent.{bags_asked as bags_of}
 use Rattle.kept.specs.Pieces.{piece_size, slots_from}
 use Rattle.kept.specs.Parts.{drops_by}
 use Rattle.kept.specs.Lent.{entries_kept, SameLoans}
