@@ -30,7 +30,7 @@ pub struct Runs<'a> {
 }
 
 // The same runs, lent with `&`: to ask of them takes no more than that.
-#[derive(Clone, Copy)]
+#[derive(Clone, Copy, Debug, PartialEq, Eq)]
 pub struct Asked<'a> {
     pub starts: &'a [u32],
     pub joins: &'a [u32],

@@ -5,7 +5,7 @@
 #![tactic(auto)]
 
 ghost use Rattle.std.specs.Prelude.{◌≡◌, false, cond, ℕ, ◌≤◌, ◌<◌, ◌+◌, [], ◌∷◌, ◌++◌, eqb, length, set, drop, replicate};
-ghost use Rattle.bags.specs.Lent.{AskedInRoom as InRoom, bags_asked as bags_of};
+ghost use Rattle.bags.specs.Lent.{AskedInRoom, bags_asked};
 ghost use Rattle.kept.specs.declared.Seen.{Seen};
 ghost use Rattle.kept.specs.Rules.{dropped};
 ghost use Rattle.kept.specs.Pieces.{piece_size, slots_of, slots_freed, lists_in, LaidOut, Fits, Room, none_used, cleared};
@@ -210,9 +210,9 @@ pub fn clear_piece<T: Copy>(piece: &mut [T], zero: T)
 // What becomes of the entry of that procedure, with those locks. The bags are asked only where the answer matters.
 #[tactic(auto, unfolding(crate::specs::Parts::weighed_entry, crate::specs::Rules::races, crate::specs::Rules::dropped, crate::specs::Rules::omits))]
 fn weigh(procedure: ProcedureNumber, locks: u64, entry: Entry, runs: &Asked<'_>) -> Weighed
-    requires { InRoom runs.now }
+    requires { AskedInRoom runs.now }
     ensures { (at : ℕ) (seen : Seen)
-        → into result at seen ≡ weighed_entry (bags_of runs.now) entry at (entry_of procedure.0 locks) seen }
+        → into result at seen ≡ weighed_entry (bags_asked runs.now) entry at (entry_of procedure.0 locks) seen }
 {
     let ours = entry.locks;
     let nothing_in_common = apart(locks, ours);
@@ -275,12 +275,12 @@ impl KeptLists<'_> {
         entry: Entry,
         runs: &Asked<'_>,
     ) -> Result<Visited, NotKept>
-        requires bags_room { InRoom runs.now }
+        requires bags_room { AskedInRoom runs.now }
         requires room { Room (pieces_of self.old) self.old.slots }
         requires location_lt_piece_size { location < piece_size }
-        ensures result { result ≡ accessed (bags_of runs.now) location entry (lists_in (pieces_of self.old)) }
-        ensures code { code_of result ≡ access_code (bags_of runs.now) location entry (lists_in (pieces_of self.old)) }
-        ensures pieces { AfterAccess (bags_of runs.now) location entry (pieces_of self.old) self.old.slots
+        ensures result { result ≡ accessed (bags_asked runs.now) location entry (lists_in (pieces_of self.old)) }
+        ensures code { code_of result ≡ access_code (bags_asked runs.now) location entry (lists_in (pieces_of self.old)) }
+        ensures pieces { AfterAccess (bags_asked runs.now) location entry (pieces_of self.old) self.old.slots
             (pieces_of self.new) self.new.slots result }
         ensures lent { SameLoans self.old self.new }
     {
@@ -313,13 +313,13 @@ impl KeptLists<'_> {
         entry: Entry,
         runs: &Asked<'_>,
     ) -> Result<Visited, NotKept>
-        requires bags_room { InRoom runs.now }
+        requires bags_room { AskedInRoom runs.now }
         requires room { Room (pieces_of self.old) self.old.slots }
         requires location_lt_piece_size { location < piece_size }
         requires first_value { first.0 ≡ slot + 1 }
         requires location_value { slots_of self.old.heads.now self.old.links.now location ≡ slot ∷ [] }
-        ensures result { result ≡ accessed (bags_of runs.now) location entry (lists_in (pieces_of self.old)) }
-        ensures pieces { AfterAccess (bags_of runs.now) location entry (pieces_of self.old) self.old.slots
+        ensures result { result ≡ accessed (bags_asked runs.now) location entry (lists_in (pieces_of self.old)) }
+        ensures pieces { AfterAccess (bags_asked runs.now) location entry (pieces_of self.old) self.old.slots
             (pieces_of self.new) self.new.slots result }
         ensures lent { SameLoans self.old self.new }
     {
@@ -367,14 +367,14 @@ impl KeptLists<'_> {
 
     // The dropped go, and the entry comes unless it is left out.
     fn change(&mut self, location: usize, entry: Entry, seen: Seen, runs: &Asked<'_>)
-        requires bags_room { InRoom runs.now }
+        requires bags_room { AskedInRoom runs.now }
         requires room { Room (pieces_of self.old) self.old.slots }
         requires location_lt_piece_size { location < piece_size }
-        requires seen_value { seen ≡ seen_over (bags_of runs.now) entry self.old.procedures.now self.old.sets.now
+        requires seen_value { seen ≡ seen_over (bags_asked runs.now) entry self.old.procedures.now self.old.sets.now
             (slots_of self.old.heads.now self.old.links.now location) nothing_seen }
         requires slots_value { is_full seen self.old.slots ≡ false }
-        ensures slots { self.new.slots ≡ slots_after (bags_of runs.now) location entry (pieces_of self.old) self.old.slots }
-        ensures pieces { Accepted (bags_of runs.now) location entry (pieces_of self.old) self.old.slots (pieces_of self.new) }
+        ensures slots { self.new.slots ≡ slots_after (bags_asked runs.now) location entry (pieces_of self.old) self.old.slots }
+        ensures pieces { Accepted (bags_asked runs.now) location entry (pieces_of self.old) self.old.slots (pieces_of self.new) }
         ensures lent { SameLoans self.old self.new }
     {
         self.prune(location, entry, seen, runs);
@@ -385,11 +385,11 @@ impl KeptLists<'_> {
 
     // Every entry of a location's list is visited, unless one is found whose procedure is in no bag; nothing changes.
     fn look(&self, location: usize, entry: Entry, runs: &Asked<'_>) -> Result<Seen, NotKept>
-        requires bags_room { InRoom runs.now }
+        requires bags_room { AskedInRoom runs.now }
         requires walkable { Walkable self.now.heads.now self.now.links.now location }
         requires piece_size_in_bounds { piece_size ≤ length self.now.procedures.now }
         requires piece_size_in_bounds_2 { piece_size ≤ length self.now.sets.now }
-        ensures { result ≡ looked_over (bags_of runs.now) entry self.now.procedures.now self.now.sets.now
+        ensures { result ≡ looked_over (bags_asked runs.now) entry self.now.procedures.now self.now.sets.now
             (slots_of self.now.heads.now self.now.links.now location) }
     {
         let mut seen = Seen::nothing();
@@ -441,10 +441,10 @@ impl KeptLists<'_> {
 
     // Is the entry in a slot dropped?
     fn drops(&self, slot: usize, entry: Entry, runs: &Asked<'_>) -> bool
-        requires bags_room { InRoom runs.now }
+        requires bags_room { AskedInRoom runs.now }
         requires procedures_in_bounds { slot < length self.now.procedures.now }
         requires sets_in_bounds { slot < length self.now.sets.now }
-        ensures { result ≡ drops_by (bags_of runs.now) entry self.now.procedures.now self.now.sets.now slot }
+        ensures { result ≡ drops_by (bags_asked runs.now) entry self.now.procedures.now self.now.sets.now slot }
     {
         let weighed = weigh(
             ProcedureNumber(self.procedures[slot]),
@@ -457,17 +457,17 @@ impl KeptLists<'_> {
 
     // The entries to be dropped, so many as were seen, are unlinked and their slots freed.
     fn prune(&mut self, location: usize, entry: Entry, seen: Seen, runs: &Asked<'_>)
-        requires bags_room { InRoom runs.now }
+        requires bags_room { AskedInRoom runs.now }
         requires location_lt_piece_size { location < piece_size }
         requires fits { Fits (pieces_of self.old) }
         requires laid_out { LaidOut self.old.heads.now self.old.links.now self.old.slots
             (slots_of self.old.heads.now self.old.links.now) (slots_freed self.old.links.now self.old.slots) }
-        requires count_value { seen.dropped ≡ how_many (drops_by (bags_of runs.now) entry self.old.procedures.now self.old.sets.now)
+        requires count_value { seen.dropped ≡ how_many (drops_by (bags_asked runs.now) entry self.old.procedures.now self.old.sets.now)
             (slots_of self.old.heads.now self.old.links.now location) }
         requires first_dropped { (seen.dropped ≡ 0 → ⊥)
-            → FirstDropped (drops_by (bags_of runs.now) entry self.old.procedures.now self.old.sets.now)
+            → FirstDropped (drops_by (bags_asked runs.now) entry self.old.procedures.now self.old.sets.now)
             (slots_of self.old.heads.now self.old.links.now location) seen.first.0 seen.before.0 }
-        ensures pruned { Pruned (drops_by (bags_of runs.now) entry self.old.procedures.now self.old.sets.now) location
+        ensures pruned { Pruned (drops_by (bags_asked runs.now) entry self.old.procedures.now self.old.sets.now) location
             self.old.heads.now self.old.links.now self.old.slots self.new.heads.now self.new.links.now self.new.slots }
         ensures entries { entries_kept self.old self.new }
         ensures lent { SameLoans self.old self.new }

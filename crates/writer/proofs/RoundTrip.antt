@@ -223,6 +223,11 @@ module _ (es : List Event) (before : List ℕ) (at : ℕ) (r : Written) where
       place zero some = absurd (omega arith)
       place (suc c) some = refl
 
+  -- the same where it is known that the buffer that is left is the one before
+  pub left_alone : (after : List ℕ) → after ≡ before → (why : Why) → list_code (length before) at es ≡ code_for why
+      → (r.code ≡ code_for why) × (r.next ≡ at) → Wrote es before at r after
+  left_alone after same why judged is = rw same (wrote_none why judged is)
+
 -- an event is a list of one
 pub wrote_one : (e : Event) (before : List ℕ) (at : ℕ) (r : Written) (after : List ℕ) → r.code ≡ 0 → event_code (length before) at e ≡ 0
     → r.next ≡ at + length (bytes_of e) → after ≡ overwritten before at (bytes_of e) → Wrote (e ∷ []) before at r after

@@ -5,7 +5,7 @@ use mathlib.Core.Path.{◌≡◌}
 use native.Mathlib.Omega.{arith}
 use borrow.Author.Rules.{rules}
 use Rattle.std.specs.Prelude.{Err}
-use Rattle.bags.specs.Lent.{bags_asked as bags_of}
+use Rattle.bags.specs.Lent.{bags_asked}
 use Rattle.kept.specs.Pieces.{slots_of, lists_in}
 use Rattle.kept.specs.Lent.{pieces_of}
 use Rattle.kept.specs.Access.{code_of, in_no_bag, accessed}
@@ -39,7 +39,7 @@ look-requires-clause-walkable c = room_walkable (pieces_of c.args.self.now) _ _ 
 
 -- Looking gives no refusal but that an entry's procedure is in no bag.
 stray : (c : goal.After-from_residual)
-    → c.from_residual.result ≡ accessed (bags_of c.args.runs.now) c.args.location c.args.entry (lists_in (pieces_of c.args.self.now))
+    → c.from_residual.result ≡ accessed (bags_asked c.args.runs.now) c.args.location c.args.entry (lists_in (pieces_of c.args.self.now))
 stray c =
     let gives : c.from_residual.result ≡ Err c.in_err-seen.field-0.0 = search rules in
     let found = looked_stray _ _ _ (pieces_of c.args.self.now) c.args.self.now.slots _ (sym c.in_err-seen.was ∙ c.look.ensures) in
@@ -53,10 +53,10 @@ returns-in_err-seen-clause-code c = ap code_of (stray c) ∙ code_told _ _ _ _
 
 -- Else everything is seen.
 looked : (c : In_ok-seen)
-    → (any (in_no_bag (bags_of c.args.runs.now)) (lists_in (pieces_of c.args.self.now) c.args.location) ≡ false)
-    × (c.in_ok-seen.seen ≡ seen_over (bags_of c.args.runs.now) c.args.entry c.args.self.now.procedures.now c.args.self.now.sets.now
+    → (any (in_no_bag (bags_asked c.args.runs.now)) (lists_in (pieces_of c.args.self.now) c.args.location) ≡ false)
+    × (c.in_ok-seen.seen ≡ seen_over (bags_asked c.args.runs.now) c.args.entry c.args.self.now.procedures.now c.args.self.now.sets.now
     (slots_of c.args.self.now.heads.now c.args.self.now.links.now c.args.location) nothing_seen)
-    × Told (bags_of c.args.runs.now) c.args.location c.args.entry (pieces_of c.args.self.now) c.args.self.now.slots c.in_ok-seen.seen
+    × Told (bags_asked c.args.runs.now) c.args.location c.args.entry (pieces_of c.args.self.now) c.args.self.now.slots c.in_ok-seen.seen
 looked c =
     looked_tells _ _ _ (pieces_of c.args.self.now) _ _ c.requires.room c.requires.location_lt_piece_size (sym c.in_ok-seen.was ∙ c.look.ensures)
 

@@ -8,14 +8,14 @@ use borrow.Author.Tests.{not-true, not-false}
 use Rattle.kept.specs.Parts.{slot_for}
 use Rattle.kept.specs.Pieces.{piece_size}
 use Rattle.kept.specs.Lent.{pieces_of}
-use Rattle.bags.specs.Lent.{bags_asked as bags_of}
+use Rattle.bags.specs.Lent.{bags_asked}
 use Rattle.kept.proofs.Telling.{Told, seen_tells, dropped_counted, room_walkable}
 use Rattle.kept.proofs.Accepting.{left_out, append_fits, entry_added}
 use Rattle.kept.proofs.KeptLists.change.Goals as goal
 use Rattle.kept.proofs.KeptLists.change.Goals.{Start, Then-not-seen}
 
 -- What is seen tells what the rules say of the list.
-told : (c : Start) → Told (bags_of c.args.runs.now) c.args.location c.args.entry (pieces_of c.args.self.now) c.args.self.now.slots c.args.seen
+told : (c : Start) → Told (bags_asked c.args.runs.now) c.args.location c.args.entry (pieces_of c.args.self.now) c.args.self.now.slots c.args.seen
 told c =
     let lent = pieces_of c.args.self.now in
     seen_tells _ _ _ lent _ _ (room_walkable lent _ _ c.requires.room c.requires.location_lt_piece_size) c.requires.seen_value

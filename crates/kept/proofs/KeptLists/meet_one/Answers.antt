@@ -3,7 +3,7 @@ use mathlib.Core.Bool.{false}
 use mathlib.Core.Path.{◌≡◌, refl, sym, ◌∙◌}
 use native.Mathlib.Omega.{arith}
 use borrow.Author.Rules.{rules}
-use Rattle.bags.specs.Lent.{bags_asked as bags_of}
+use Rattle.bags.specs.Lent.{bags_asked}
 use Rattle.kept.specs.Lists.{any}
 use Rattle.kept.specs.Lent.{pieces_of}
 use Rattle.kept.specs.Pieces.{lists_in}
@@ -30,8 +30,8 @@ store-requires-clause-slot_lt_piece_size c = one_fits c.requires.room c.requires
 
 -- The entry's procedure is in some bag, and what is seen of the entry is what is seen of the list.
 told : (c : After-and-seen)
-    → (any (in_no_bag (bags_of c.args.runs.now)) (lists_in (pieces_of c.args.self.now) c.args.location) ≡ false)
-    × Told (bags_of c.args.runs.now) c.args.location c.args.entry (pieces_of c.args.self.now) c.args.self.now.slots c.and-seen.result
+    → (any (in_no_bag (bags_asked c.args.runs.now)) (lists_in (pieces_of c.args.self.now) c.args.location) ≡ false)
+    × Told (bags_asked c.args.runs.now) c.args.location c.args.entry (pieces_of c.args.self.now) c.args.self.now.slots c.and-seen.result
 told c = (
   one_bagged _ _ (pieces_of c.args.self.now) c.requires.location_value (c.in_some_bag.ensures.bags _ _ c.requires.bags_room) (search rules),
   one_told c.requires.room c.requires.location_lt_piece_size c.requires.location_value (omega (arith, c.requires.first_value)) c.weigh-weighed.result
