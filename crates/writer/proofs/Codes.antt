@@ -77,12 +77,11 @@ module _ (room at : ℕ) (e : Event) (es : List Event) where
   first_refused_lem c is = rw is
 
   pub first_stops : (why : Why) → event_code room at e ≡ code_for why → list_code room at (e ∷ es) ≡ code_for why
-  unfolding list_code
   first_stops why is = go (code_for why) (code_some why) is
     where
-      go : (c : ℕ) → 0 < c → event_code room at e ≡ c → first_refused (event_code room at e) (list_code room (at + length (bytes_of e)) es) ≡ c
+      go : (c : ℕ) → 0 < c → event_code room at e ≡ c → list_code room at (e ∷ es) ≡ c
       go zero some is = absurd (omega arith)
-      go (suc c) some is = rw is
+      go (suc c) some is = sym (first_refused_lem c is)
 
   pub first_passes : event_code room at e ≡ 0 → list_code room at (e ∷ es) ≡ list_code room (at + length (bytes_of e)) es
   unfolding list_code

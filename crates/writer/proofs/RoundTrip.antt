@@ -199,20 +199,22 @@ module _ (es : List Event) (before : List ℕ) (at : ℕ) (r : Written) where
         outside_kept = λ i far. ap (λ (l : List ℕ). get_or l i 0) left ∙ outside before (bytes_of_all es) at inside i (rw place at far);
       }
 
-  pub wrote_none : (why : Why) → list_code (length before) at es ≡ code_for why → (r.code ≡ code_for why) × (r.next ≡ at) → Wrote es before at r before
+  -- a refusal, where the buffer that is left is known to be the one before
+  pub wrote_none : (after : List ℕ) → after ≡ before → (why : Why) → list_code (length before) at es ≡ code_for why
+      → (r.code ≡ code_for why) × (r.next ≡ at) → Wrote es before at r after
   unfolding next_place buffer_after
-  wrote_none why judged is =
+  wrote_none after same why judged is =
       let some : 0 < r.code = rw is.0 (code_some why) in
       record {
         code = is.0 ∙ sym judged;
         next = is.1 ∙ place r.code some;
-        buffer = kept r.code some;
+        buffer = same ∙ kept r.code some;
         reads_back = λ none behind. absurd (omega arith);
         written_again = λ trace begin end bytes read room.
             let passes = passes_again trace begin end es bytes read (length before) at room in
             absurd (omega (arith, code_some why));
-        untouched = λ some. (is.1, refl);
-        outside_kept = λ i far. refl;
+        untouched = λ some. (is.1, same);
+        outside_kept = λ i far. ap (λ (l : List ℕ). get_or l i 0) same;
       }
     where
       kept : (c : ℕ) → 0 < c → before ≡ buffer_after c before at es
@@ -222,11 +224,6 @@ module _ (es : List Event) (before : List ℕ) (at : ℕ) (r : Written) where
       place : (c : ℕ) → 0 < c → at ≡ next_place c at es
       place zero some = absurd (omega arith)
       place (suc c) some = refl
-
-  -- the same where it is known that the buffer that is left is the one before
-  pub left_alone : (after : List ℕ) → after ≡ before → (why : Why) → list_code (length before) at es ≡ code_for why
-      → (r.code ≡ code_for why) × (r.next ≡ at) → Wrote es before at r after
-  left_alone after same why judged is = rw same (wrote_none why judged is)
 
 -- an event is a list of one
 pub wrote_one : (e : Event) (before : List ℕ) (at : ℕ) (r : Written) (after : List ℕ) → r.code ≡ 0 → event_code (length before) at e ≡ 0

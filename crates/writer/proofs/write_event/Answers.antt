@@ -8,4 +8,4 @@ pub returns-in-Ok : goal.returns-in-Ok
 returns-in-Ok c = wrote_one _ _ _ _ _ refl c.in-Ok.ensures.0 c.in-Ok.ensures.1 c.put.ensures.1
 
 pub returns-in-Err : goal.returns-in-Err
-returns-in-Err c = wrote_none _ _ _ _ _ (one_alone _ _ _ ∙ c.in-Err.ensures) c.refused.ensures
+returns-in-Err c = wrote_none _ _ _ _ _ refl _ (one_alone _ _ _ ∙ c.in-Err.ensures) c.refused.ensures
